@@ -66,5 +66,4 @@ pub trait Key: Copy {
 // `same` is an equivalence, for every kind of key. It only carries that theorem.
 pub fn same_is_equivalence<K: Key>()
     ensures { λ _. ⌜ Equivalence (λ (a b : K). K·Key .equal (K·Key .value a) (K·Key .value b)) ⌝ }
-{
-}
+{}

@@ -69,7 +69,8 @@ pub trait Line<K: Key> {
         ensures gives { λ r. ⌜ r ≡ allowed (mayBringForward from to (length (keys (now (self .entry))))) ⌝ }
         ensures keys { λ _. ⌜ keys (now (self .exit)) ≡ broughtForward from to (keys (now (self .entry))) ⌝ }
     {
-        if to < 1 || from < to || self.count() < from {
+        let count = self.count();
+        if to < 1 || from < to || count < from {
             return Err(Denial::OutOfRange);
         }
         for place in (to..from).rev() {
