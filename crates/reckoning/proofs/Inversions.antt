@@ -29,29 +29,29 @@ module _ {V : Type 0} (equal : V → V → Bool) (decides : (v w : V) → Decide
   without-comm v w [] = refl
   without-comm v w (x ∷ xs) =
       elim (cases-bool (equal v x)) [
-        inl e ↦ elim (cases-bool (equal w x)) [
-          inl f ↦ rw (e, f) (ap (λ u. without equal u xs) (decides v w .0 (differ v w x e f)))
-        | inr f ↦ rw (e, f) (rw e refl)
+        | inl e ↦ elim (cases-bool (equal w x)) [
+          | inl f ↦ rw (e, f) (ap (λ u. without equal u xs) (decides v w .0 (differ v w x e f)))
+          | inr f ↦ rw (e, f) (rw e refl)
         ]
-      | inr e ↦ elim (cases-bool (equal w x)) [
-          inl f ↦ rw (e, f) refl
-        | inr f ↦ rw (e, f) (rw e (ap (λ ys. x ∷ ys) (without-comm v w xs)))
+        | inr e ↦ elim (cases-bool (equal w x)) [
+          | inl f ↦ rw (e, f) refl
+          | inr f ↦ rw (e, f) (rw e (ap (λ ys. x ∷ ys) (without-comm v w xs)))
         ]
       ]
 
   -- of two values one stands before the other
   before-both : (v w : V) (xs : List V) → equal v w ≡ false → stands equal v xs ≡ true → stands equal w xs ≡ true
-    → before equal v xs + before equal w xs ≡ suc (before equal v (without equal w xs) + before equal w (without equal v xs))
+      → before equal v xs + before equal w xs ≡ suc (before equal v (without equal w xs) + before equal w (without equal v xs))
   before-both v w [] n s t = absurd (false≢true s)
   before-both v w (x ∷ xs) n s t =
       elim (cases-bool (equal v x)) [
-        inl e ↦ elim (cases-bool (equal w x)) [
-          inl f ↦ absurd (true≢false (sym (differ v w x e f) ∙ n))
-        | inr f ↦ rw (e, f) (rw e (omega arith))
+        | inl e ↦ elim (cases-bool (equal w x)) [
+          | inl f ↦ absurd (true≢false (sym (differ v w x e f) ∙ n))
+          | inr f ↦ rw (e, f) (rw e (omega arith))
         ]
-      | inr e ↦ elim (cases-bool (equal w x)) [
-          inl f ↦ rw (e, f) (omega arith)
-        | inr f ↦ rw (e, f) (rw e (omega (arith, before-both v w xs n (rw e at s) (rw f at t))))
+        | inr e ↦ elim (cases-bool (equal w x)) [
+          | inl f ↦ rw (e, f) (omega arith)
+          | inr f ↦ rw (e, f) (rw e (omega (arith, before-both v w xs n (rw e at s) (rw f at t))))
         ]
       ]
 
@@ -64,15 +64,15 @@ module _ {V : Type 0} (equal : V → V → Bool) (decides : (v w : V) → Decide
 
   -- taking v out of both lowers the inversions by what stood before it in the first, less what stood before it in the second
   pub inversions-without : (v : V) (xs ys : List V) → SameValues equal xs ys → stands equal v xs ≡ true
-    → inversions equal (without equal v xs) (without equal v ys) + before equal v xs ≤ inversions equal xs ys + before equal v ys
+      → inversions equal (without equal v xs) (without equal v ys) + before equal v xs ≤ inversions equal xs ys + before equal v ys
   inversions-without v [] ys same s = absurd (false≢true s)
   inversions-without v (x ∷ xs) ys same s =
       elim (cases-bool (equal v x)) [
-        inl e ↦ rw e (omega (arith, ap (λ u. inversions equal xs (without equal u ys)) (decides v x .0 e)))
-      | inr e ↦
-        let both = before-both v x ys e (stands-since equal decides v ys (omega (arith, same v, occurs equal decides v (x ∷ xs) s))) (first-stands x xs ys same) in
-        let rest = inversions-without v xs (without equal x ys) (same-tail x xs ys same) (rw e at s) in
-        rw e (omega (arith, both, rest, ap (inversions equal (without equal v xs)) (without-comm x v ys)))
+        | inl e ↦ rw e (omega (arith, ap (λ u. inversions equal xs (without equal u ys)) (decides v x .0 e)))
+        | inr e ↦
+            let both = before-both v x ys e (stands-since equal decides v ys (omega (arith, same v, occurs equal decides v (x ∷ xs) s))) (first-stands x xs ys same) in
+            let rest = inversions-without v xs (without equal x ys) (same-tail x xs ys same) (rw e at s) in
+            rw e (omega (arith, both, rest, ap (inversions equal (without equal v xs)) (without-comm x v ys)))
       ]
 
   -- v put in where it is missing
@@ -87,13 +87,13 @@ module _ {V : Type 0} (equal : V → V → Bool) (decides : (v w : V) → Decide
   without-putAt v (suc n) [] h = rw (decides v v .1 refl) refl
   without-putAt v (suc n) (y ∷ ys) h =
       elim (cases-bool (equal v y)) [
-        inl e ↦ absurd (omega (arith, rw e at h))
-      | inr e ↦ rw e (ap (λ zs. y ∷ zs) (without-putAt v n ys (omega (arith, rw e at h))))
+        | inl e ↦ absurd (omega (arith, rw e at h))
+        | inr e ↦ rw e (ap (λ zs. y ∷ zs) (without-putAt v n ys (omega (arith, rw e at h))))
       ]
 
   -- v put first in one list and behind n entries of the other
   pub inversions-put : (v : V) (n : ℕ) (xs ys : List V) → occurrences equal v ys ≡ 0
-    → inversions equal (v ∷ xs) (putAt v n ys) ≤ inversions equal xs ys + n
+      → inversions equal (v ∷ xs) (putAt v n ys) ≤ inversions equal xs ys + n
   inversions-put v n xs ys h = rw (without-putAt v n ys h) (omega (arith, before-putAt v n ys))
 
   -- v appended to both
@@ -108,7 +108,7 @@ module _ {V : Type 0} (equal : V → V → Bool) (decides : (v w : V) → Decide
       elim (cases-bool (equal x y)) [ inl e ↦ rw e refl | inr e ↦ rw e (ap (λ zs. y ∷ zs) (without-push x v ys (rw e at s))) ]
 
   pub inversions-push : (v : V) (xs ys : List V) → SameValues equal xs ys
-    → inversions equal (xs ++ v ∷ []) (ys ++ v ∷ []) ≡ inversions equal xs ys
+      → inversions equal (xs ++ v ∷ []) (ys ++ v ∷ []) ≡ inversions equal xs ys
   inversions-push v [] [] same = rw (decides v v .1 refl) refl
   inversions-push v [] (y ∷ ys) same = absurd (omega (arith, same y, hit-same equal decides y))
   inversions-push v (x ∷ xs) ys same =
@@ -121,28 +121,28 @@ module _ {V : Type 0} (equal : V → V → Bool) (decides : (v w : V) → Decide
 
   -- an exchange moves x by one place, or two others
   exchange-cases : (x : V) (p : ℕ) (ys : List V)
-    → ((before equal x (exchanged p ys) ≤ suc (before equal x ys)) × (without equal x (exchanged p ys) ≡ without equal x ys))
-    ⊎ ((before equal x (exchanged p ys) ≡ before equal x ys) × ((q : ℕ) × (without equal x (exchanged p ys) ≡ exchanged q (without equal x ys))))
+      → ((before equal x (exchanged p ys) ≤ suc (before equal x ys)) × (without equal x (exchanged p ys) ≡ without equal x ys))
+      ⊎ ((before equal x (exchanged p ys) ≡ before equal x ys) × ((q : ℕ) × (without equal x (exchanged p ys) ≡ exchanged q (without equal x ys))))
   exchange-cases x zero ys = inr (refl, (0, refl))
   exchange-cases x (suc p) [] = inr (refl, (0, refl))
   exchange-cases x (suc zero) (y ∷ []) = inr (refl, (0, refl))
   exchange-cases x (suc zero) (y ∷ z ∷ ys) =
       elim (cases-bool (equal x y)) [
-        inl e ↦ elim (cases-bool (equal x z)) [
-          inl f ↦ rw (e, f) (inl (omega arith, ap (λ u. u ∷ ys) (sym (decides x y .0 e) ∙ decides x z .0 f)))
-        | inr f ↦ rw (e, f) (inl (omega arith, refl))
+        | inl e ↦ elim (cases-bool (equal x z)) [
+          | inl f ↦ rw (e, f) (inl (omega arith, ap (λ u. u ∷ ys) (sym (decides x y .0 e) ∙ decides x z .0 f)))
+          | inr f ↦ rw (e, f) (inl (omega arith, refl))
         ]
-      | inr e ↦ elim (cases-bool (equal x z)) [
-          inl f ↦ rw (e, f) (inl (omega arith, refl))
-        | inr f ↦ rw (e, f) (inr (refl, (1, refl)))
+        | inr e ↦ elim (cases-bool (equal x z)) [
+          | inl f ↦ rw (e, f) (inl (omega arith, refl))
+          | inr f ↦ rw (e, f) (inr (refl, (1, refl)))
         ]
       ]
   exchange-cases x (suc (suc p)) (y ∷ ys) =
       elim (cases-bool (equal x y)) [
-        inl e ↦ rw e (inr (refl, (suc p, refl)))
-      | inr e ↦ rw e (elim (exchange-cases x (suc p) ys) [
-          inl h ↦ inl (omega (arith, h .0), ap (λ zs. y ∷ zs) (h .1))
-        | inr h ↦ inr (ap suc (h .0), under y (h .1 .0) (without equal x (exchanged (suc p) ys)) (without equal x ys) (h .1 .1))
+        | inl e ↦ rw e (inr (refl, (suc p, refl)))
+        | inr e ↦ rw e (elim (exchange-cases x (suc p) ys) [
+          | inl h ↦ inl (omega (arith, h .0), ap (λ zs. y ∷ zs) (h .1))
+          | inr h ↦ inr (ap suc (h .0), under y (h .1 .0) (without equal x (exchanged (suc p) ys)) (without equal x ys) (h .1 .1))
         ])
       ]
 
@@ -151,6 +151,6 @@ module _ {V : Type 0} (equal : V → V → Bool) (decides : (v w : V) → Decide
   inversions-exchanged p [] ys = omega arith
   inversions-exchanged p (x ∷ xs) ys =
       elim (exchange-cases x p ys) [
-        inl h ↦ omega (arith, h .0, ap (inversions equal xs) (h .1))
-      | inr h ↦ omega (arith, h .0, ap (inversions equal xs) (h .1 .1), inversions-exchanged (h .1 .0) xs (without equal x ys))
+        | inl h ↦ omega (arith, h .0, ap (inversions equal xs) (h .1))
+        | inr h ↦ omega (arith, h .0, ap (inversions equal xs) (h .1 .1), inversions-exchanged (h .1 .0) xs (without equal x ys))
       ]

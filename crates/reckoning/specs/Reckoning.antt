@@ -53,12 +53,12 @@ most = 1000000
 -- a request: each side pays its key's place, the rival makes some free exchanges
 abbrev pub served : ℕ → ℕ → ℕ → Sums → Sums
 served housePlace rivalPlace moved s = record {
-    requests = s .requests + 1;
-    house = s .house + housePlace;
-    rival = s .rival + rivalPlace;
-    paid = s .paid;
-    free = s .free + moved;
-  }
+  requests = s .requests + 1;
+  house = s .house + housePlace;
+  rival = s .rival + rivalPlace;
+  paid = s .paid;
+  free = s .free + moved;
+}
 
 -- a paid exchange
 abbrev pub paidFor : Sums → Sums
@@ -69,6 +69,12 @@ abbrev pub firstFailed : List (Bool × Denial) → Option Denial
 firstFailed [] = None
 firstFailed (check ∷ checks) = cond (check .0) (Some (check .1)) (firstFailed checks)
 
+-- a call with no failed check is done; any other is denied, and changes nothing
+abbrev pub decided : {S : Type 0} → Option Denial → S → S → Result (Unit {0}) Denial × S
+decided None after before = (Ok tt, after)
+decided (Some denial) after before = (Err denial, before)
+
+-- a goal outside 1 to the place
 abbrev pub outside : ℕ → ℕ → Bool
 outside goal place = not (leb 1 goal && leb goal place)
 
@@ -114,26 +120,26 @@ module _ {V : Type 0} (equal : V → V → Bool) where
   done (load v) s = record { house = s .house ++ v ∷ []; rival = s .rival ++ v ∷ []; sums = s .sums }
   done start s = s
   done (lookup v goal) s = record {
-      house = broughtForward (walk equal v (s .house)) 1 (s .house);
-      rival = broughtForward (walk equal v (s .rival)) goal (s .rival);
-      sums = served (walk equal v (s .house)) (walk equal v (s .rival)) (walk equal v (s .rival) - goal) (s .sums);
-    }
+    house = broughtForward (walk equal v (s .house)) 1 (s .house);
+    rival = broughtForward (walk equal v (s .rival)) goal (s .rival);
+    sums = served (walk equal v (s .house)) (walk equal v (s .rival)) (walk equal v (s .rival) - goal) (s .sums);
+  }
   done (add v goal) s = record {
-      house = broughtForward (suc (length (s .house))) 1 (s .house ++ v ∷ []);
-      rival = broughtForward (suc (length (s .rival))) goal (s .rival ++ v ∷ []);
-      sums = served (suc (length (s .house))) (suc (length (s .rival))) (suc (length (s .rival)) - goal) (s .sums);
-    }
+    house = broughtForward (suc (length (s .house))) 1 (s .house ++ v ∷ []);
+    rival = broughtForward (suc (length (s .rival))) goal (s .rival ++ v ∷ []);
+    sums = served (suc (length (s .house))) (suc (length (s .rival))) (suc (length (s .rival)) - goal) (s .sums);
+  }
   done (remove v) s = record {
-      house = takenOut (walk equal v (s .house)) (s .house);
-      rival = takenOut (walk equal v (s .rival)) (s .rival);
-      sums = served (walk equal v (s .house)) (walk equal v (s .rival)) 0 (s .sums);
-    }
+    house = takenOut (walk equal v (s .house)) (s .house);
+    rival = takenOut (walk equal v (s .rival)) (s .rival);
+    sums = served (walk equal v (s .house)) (walk equal v (s .rival)) 0 (s .sums);
+  }
   done (exchange place) s = record { house = s .house; rival = exchanged place (s .rival); sums = paidFor (s .sums) }
   done close s = s
 
-  -- a call: its answer, and the bench after it; a denied call does nothing
+  -- a call: its answer, and the bench after it
   abbrev pub step : Limits → Call V → State V → Result (Unit {0}) Denial × State V
-  step limits call s = elim (firstFailed (checks limits call s)) [ None ↦ (Ok tt, done call s) | Some denial ↦ (Err denial, s) ]
+  step limits call s = decided (firstFailed (checks limits call s)) (done call s) s
 
   -- a list of calls, from a bench
   abbrev pub reckonedFrom : Limits → State V → List (Call V) → State V

@@ -6,11 +6,9 @@ use keys::Key;
 // The definitions give the worked runs.
 pub fn worked_runs()
     ensures { λ _. ⌜ WorkedRuns ⌝ }
-{
-}
+{}
 
 // Whatever was called, move-to-front costs at most twice the rival, for every kind of key.
 pub fn twice_bound<K: Key>()
     ensures { λ _. ⌜ TwiceLaw (K·Key .Value) (K·Key .equal) ⌝ }
-{
-}
+{}
