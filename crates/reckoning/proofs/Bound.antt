@@ -51,7 +51,7 @@ module _ {V : Type 0} (equal : V → V → Bool) where
     pub covered : s .sums .house + s .sums .free + s .sums .requests + inversions equal (s .house) (s .rival) ≤ 2 * s .sums .rival + s .sums .paid
 
   -- a key that is not unmatched stands on both sides or on neither
-  matched : (v : V) (s : State V) → unmatched equal v s ≡ false → stands equal v (s .rival) ≡ stands equal v (s .house)
+  matched : (v : V) (s : State V) → unmatched equal v (s .house) (s .rival) ≡ false → stands equal v (s .rival) ≡ stands equal v (s .house)
   matched v s e = agree (stands equal v (s .house)) (stands equal v (s .rival)) (or-parts _ _ e .1)
 
 module _ {V : Type 0} (equal : V → V → Bool) (decides : (v w : V) → Decides (equal v w) (v ≡ w)) where

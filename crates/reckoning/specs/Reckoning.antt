@@ -83,34 +83,34 @@ module _ {V : Type 0} (equal : V → V → Bool) where
   empty = record { house = []; rival = []; sums = zeros }
 
   -- the lines' counts differ, or the key stands in just one line
-  abbrev pub unmatched : V → State V → Bool
-  unmatched v s =
-      not (eqb (length (s .house)) (length (s .rival)))
-      || cond (stands equal v (s .house)) (not (stands equal v (s .rival))) (stands equal v (s .rival))
+  abbrev pub unmatched : V → List V → List V → Bool
+  unmatched v house rival =
+      not (eqb (length house) (length rival))
+      || cond (stands equal v house) (not (stands equal v rival)) (stands equal v rival)
 
   -- one of the lines has as many keys as its limit
-  abbrev pub full : Limits → State V → Bool
-  full limits s = eqb (length (s .house)) (limits .house) || eqb (length (s .rival)) (limits .rival)
+  abbrev pub full : Limits → List V → List V → Bool
+  full limits house rival = eqb (length house) (limits .house) || eqb (length rival) (limits .rival)
 
   -- the checks of each call, as what fails and the denial that it brings
   abbrev pub checks : Limits → Call V → State V → List (Bool × Denial)
-  checks limits (load v) s = (unmatched v s, Unmatched) ∷ (stands equal v (s .house), Present) ∷ (full limits s, Full) ∷ []
+  checks limits (load v) s = (unmatched v (s .house) (s .rival), Unmatched) ∷ (stands equal v (s .house), Present) ∷ (full limits (s .house) (s .rival), Full) ∷ []
   checks limits start s = []
   checks limits (lookup v goal) s =
       (eqb (s .sums .requests) most, Exhausted)
-      ∷ (unmatched v s, Unmatched)
+      ∷ (unmatched v (s .house) (s .rival), Unmatched)
       ∷ (not (stands equal v (s .house)), Absent)
       ∷ (outside goal (walk equal v (s .rival)), BadGoal)
       ∷ []
   checks limits (add v goal) s =
       (eqb (s .sums .requests) most, Exhausted)
-      ∷ (unmatched v s, Unmatched)
+      ∷ (unmatched v (s .house) (s .rival), Unmatched)
       ∷ (stands equal v (s .house), Present)
-      ∷ (full limits s, Full)
+      ∷ (full limits (s .house) (s .rival), Full)
       ∷ (outside goal (suc (length (s .rival))), BadGoal)
       ∷ []
   checks limits (remove v) s =
-      (eqb (s .sums .requests) most, Exhausted) ∷ (unmatched v s, Unmatched) ∷ (not (stands equal v (s .house)), Absent) ∷ []
+      (eqb (s .sums .requests) most, Exhausted) ∷ (unmatched v (s .house) (s .rival), Unmatched) ∷ (not (stands equal v (s .house)), Absent) ∷ []
   checks limits (exchange place) s =
       (eqb (s .sums .paid) most, Exhausted) ∷ (not (mayExchange place (length (s .rival))), OutOfRange) ∷ []
   checks limits close s = []
