@@ -22,11 +22,11 @@ use Rattle.reckoning.proofs.Values.{before, without, hit, putAt, walk-before, 
 use Rattle.reckoning.proofs.Inversions.{inversions, SameValues, inversions-without, inversions-put, inversions-push, inversions-exchanged}
 
 -- no check fails
-abbrev AllPass : List (Bool × Denial) → Type 0
+abbrev pub AllPass : List (Bool × Denial) → Type 0
 AllPass [] = Unit {0}
 AllPass (check ∷ checks) = (check .0 ≡ false) × AllPass checks
 
-passes : (checks : List (Bool × Denial)) → firstFailed checks ≡ None → AllPass checks
+pub passes : (checks : List (Bool × Denial)) → firstFailed checks ≡ None → AllPass checks
 passes [] e = tt
 passes (check ∷ checks) e =
     elim (cases-bool (check .0)) [
@@ -51,8 +51,8 @@ module _ {V : Type 0} (equal : V → V → Bool) where
     pub covered : s .sums .house + s .sums .free + s .sums .requests + inversions equal (s .house) (s .rival) ≤ 2 * s .sums .rival + s .sums .paid
 
   -- a key that is not unmatched stands on both sides or on neither
-  matched : (v : V) (s : State V) → unmatched equal v (s .house) (s .rival) ≡ false → stands equal v (s .rival) ≡ stands equal v (s .house)
-  matched v s e = agree (stands equal v (s .house)) (stands equal v (s .rival)) (or-parts _ _ e .1)
+  pub matched : (v : V) (xs ys : List V) → unmatched equal v xs ys ≡ false → stands equal v ys ≡ stands equal v xs
+  matched v xs ys e = agree (stands equal v xs) (stands equal v ys) (or-parts _ _ e .1)
 
 module _ {V : Type 0} (equal : V → V → Bool) (decides : (v w : V) → Decides (equal v w) (v ≡ w)) where
   -- one value more, which was missing
@@ -96,7 +96,7 @@ module _ {V : Type 0} (equal : V → V → Bool) (decides : (v w : V) → Decide
   lookup-keeps limits v goal s e b =
       let pass : AllPass (checks equal limits (lookup v goal) s) = passes (checks equal limits (lookup v goal) s) e in
       let here : stands equal v (s .house) ≡ true = not-false _ (pass .1 .1 .0) in
-      let there : stands equal v (s .rival) ≡ true = matched equal v s (pass .1 .0) ∙ here in
+      let there : stands equal v (s .rival) ≡ true = matched equal v (s .house) (s .rival) (pass .1 .0) ∙ here in
       let range : (1 ≤ goal) × (goal ≤ walk equal v (s .rival)) = within-goal goal (walk equal v (s .rival)) (pass .1 .1 .1 .0) in
       let wh : walk equal v (s .house) ≡ suc (before equal v (s .house)) = walk-before equal decides v (s .house) in
       let wr : walk equal v (s .rival) ≡ suc (before equal v (s .rival)) = walk-before equal decides v (s .rival) in
@@ -121,7 +121,7 @@ module _ {V : Type 0} (equal : V → V → Bool) (decides : (v w : V) → Decide
   remove-keeps limits v s e b =
       let pass : AllPass (checks equal limits (remove v) s) = passes (checks equal limits (remove v) s) e in
       let here : stands equal v (s .house) ≡ true = not-false _ (pass .1 .1 .0) in
-      let there : stands equal v (s .rival) ≡ true = matched equal v s (pass .1 .0) ∙ here in
+      let there : stands equal v (s .rival) ≡ true = matched equal v (s .house) (s .rival) (pass .1 .0) ∙ here in
       let wh : walk equal v (s .house) ≡ suc (before equal v (s .house)) = walk-before equal decides v (s .house) in
       let wr : walk equal v (s .rival) ≡ suc (before equal v (s .rival)) = walk-before equal decides v (s .rival) in
       rw (takenOut-walk equal decides v (s .house), takenOut-walk equal decides v (s .rival))
