@@ -1,13 +1,14 @@
 -- Bringing an entry forward: where it changes nothing, its length, and one exchange more.
 use mathlib.Core.Path.{_≡_, refl, sym, ap, _∙_}
 use mathlib.Core.Logic.{inl, inr}
-use mathlib.Core.List.{List, [], _∷_, _++_}
+use mathlib.Core.List.{List, [], _∷_, _++_, map}
 use Prim.Native.Nat.{ℕ, zero, suc, _+_, _≤_, _<_}
 use native.Mathlib.Omega.{arith}
 use lib.ListN.{length, take, drop}
-use Rattle.std.proofs.shelf.Lists.{drop-all}
+use Rattle.std.proofs.shelf.Lists.{drop-all, map-append, take-map, drop-map}
 use Rattle.std.proofs.shelf.Tests.{cases-lt}
 use Rattle.lines.specs.Orders.{takenOut, exchanged, broughtForward}
+use Rattle.lines.proofs.Kept.{map-takenOut}
 
 module _ {X : Type 0} where
   pub length-exchanged : (p : ℕ) (xs : List X) → length (exchanged p xs) ≡ length xs
@@ -55,3 +56,12 @@ module _ {X : Type 0} where
   forward-step (suc zero) (suc q) (x ∷ xs) l h n = absurd (omega arith)
   forward-step (suc (suc p)) (suc zero) (x ∷ xs) l h n = front-step p x xs (takenOut (suc p) xs) (omega arith)
   forward-step (suc (suc p)) (suc (suc q)) (x ∷ xs) l h n = ap (λ ys. x ∷ ys) (forward-step (suc p) (suc q) xs (omega arith) (omega arith) (omega arith))
+
+-- the keys' values after a key was brought forward
+module _ {K V : Type 0} (value : K → V) where
+  pub map-forward : (p q : ℕ) (xs : List K) → map value (broughtForward p q xs) ≡ broughtForward p q (map value xs)
+  map-forward zero q xs = refl
+  map-forward (suc p) zero xs = refl
+  map-forward (suc p) (suc zero) xs = rw (map-append, map-takenOut value (suc p) xs, drop-map value p xs, take-map value 1 (drop p xs)) refl
+  map-forward (suc p) (suc (suc q)) [] = refl
+  map-forward (suc p) (suc (suc q)) (x ∷ xs) = ap (λ ys. value x ∷ ys) (map-forward p (suc q) xs)

@@ -18,7 +18,8 @@ use Rattle.lines.specs.Orders.{takenOut, exchanged, broughtForward}
 use Rattle.lines.specs.Places.{stands, walk, occurrences, Different}
 use Rattle.reckoning.specs.Reckoning.{Sums, State, Limits, Call, load, start, lookup, add, remove, exchange, close, zeros, outside, firstFailed, decided, empty, unmatched, full, checks, done, step, reckonedFrom, reckoned}
 use Rattle.reckoning.specs.Twice.{Twice, TwiceLaw, Made}
-use Rattle.reckoning.proofs.Values.{before, without, hit, putAt, walk-before, takenOut-walk, forward-walk, forward-last, occurrences-without, occurrences-putAt, occurrences-push, occurrences-exchanged, hit-same, occurs, occurs-not, stands-since}
+use Rattle.lines.proofs.Kept.{occurrences-missing, occurrences-exchanged}
+use Rattle.reckoning.proofs.Values.{before, without, hit, putAt, walk-before, takenOut-walk, forward-walk, forward-last, occurrences-without, occurrences-putAt, occurrences-push, hit-same, stands-since}
 use Rattle.reckoning.proofs.Inversions.{inversions, SameValues, inversions-without, inversions-put, inversions-push, inversions-exchanged}
 
 -- no check fails
@@ -68,7 +69,7 @@ module _ {V : Type 0} (equal : V → V → Bool) (decides : (v w : V) → Decide
       let pass : AllPass (checks equal limits (load v) s) = passes (checks equal limits (load v) s) e in
       record {
         same = λ w. omega (arith, b .same w, occurrences-push equal decides w v (s .house), occurrences-push equal decides w v (s .rival));
-        different = λ w. omega (arith, occurrences-push equal decides w v (s .house), different-more v (s .house) (b .different) (occurs-not equal decides v (s .house) (pass .1 .0)) w);
+        different = λ w. omega (arith, occurrences-push equal decides w v (s .house), different-more v (s .house) (b .different) (occurrences-missing equal v (s .house) (pass .1 .0)) w);
         covered = omega (arith, b .covered, inversions-push equal decides v (s .house) (s .rival) (b .same));
       }
 
@@ -114,7 +115,7 @@ module _ {V : Type 0} (equal : V → V → Bool) (decides : (v w : V) → Decide
       let level : length (s .house) ≡ length (s .rival) = eqb-true _ _ (not-false _ (or-parts _ _ (pass .1 .0) .0)) in
       rw (forward-last v 1 (s .house) (omega arith) (omega arith), forward-last v goal (s .rival) (range .0) (range .1))
       (put-keeps v (pred goal) (s .house) (s .rival) (done equal (add v goal) s .sums) (b .same) (b .different)
-      (occurs-not equal decides v (s .house) (pass .1 .1 .0))
+      (occurrences-missing equal v (s .house) (pass .1 .1 .0))
       (omega (arith, b .covered)))
 
   remove-keeps : (limits : Limits) (v : V) (s : State V) → firstFailed (checks equal limits (remove v) s) ≡ None → Balanced equal s → Balanced equal (done equal (remove v) s)
@@ -133,7 +134,7 @@ module _ {V : Type 0} (equal : V → V → Bool) (decides : (v w : V) → Decide
 
   exchange-keeps : (place : ℕ) (s : State V) → Balanced equal s → Balanced equal (done equal (exchange place) s)
   exchange-keeps place s b = record {
-    same = λ w. omega (arith, b .same w, occurrences-exchanged equal decides w place (s .rival));
+    same = λ w. omega (arith, b .same w, occurrences-exchanged equal w place (s .rival));
     different = b .different;
     covered = omega (arith, b .covered, inversions-exchanged equal decides place (s .house) (s .rival));
   }

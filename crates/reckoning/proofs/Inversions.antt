@@ -10,7 +10,8 @@ use Rattle.std.specs.Orderings.{Decides}
 use Rattle.std.proofs.shelf.Tests.{cases-bool, false≢true, true≢false}
 use Rattle.lines.specs.Orders.{exchanged}
 use Rattle.lines.specs.Places.{stands, occurrences}
-use Rattle.reckoning.proofs.Values.{before, without, hit, putAt, occurrences-without, hit-same, occurs, occurs-not, stands-since}
+use Rattle.lines.proofs.Kept.{occurrences-standing}
+use Rattle.reckoning.proofs.Values.{before, without, hit, putAt, occurrences-without, hit-same, stands-since}
 
 module _ {V : Type 0} (equal : V → V → Bool) where
   -- the pairs that stand in opposite order in two lists of the same values
@@ -70,7 +71,7 @@ module _ {V : Type 0} (equal : V → V → Bool) (decides : (v w : V) → Decide
       elim (cases-bool (equal v x)) [
         | inl e ↦ rw e (omega (arith, ap (λ u. inversions equal xs (without equal u ys)) (decides v x .0 e)))
         | inr e ↦
-            let both = before-both v x ys e (stands-since equal decides v ys (omega (arith, same v, occurs equal decides v (x ∷ xs) s))) (first-stands x xs ys same) in
+            let both = before-both v x ys e (stands-since equal decides v ys (omega (arith, same v, occurrences-standing equal v (x ∷ xs) s))) (first-stands x xs ys same) in
             let rest = inversions-without v xs (without equal x ys) (same-tail x xs ys same) (rw e at s) in
             rw e (omega (arith, both, rest, ap (inversions equal (without equal v xs)) (without-comm x v ys)))
       ]

@@ -10,6 +10,7 @@ use Rattle.std.specs.Orderings.{Decides}
 use Rattle.std.proofs.shelf.Tests.{cases-bool, false≢true}
 use Rattle.lines.specs.Orders.{takenOut, exchanged, broughtForward}
 use Rattle.lines.specs.Places.{stands, walk, occurrences}
+use Rattle.lines.proofs.Kept.{occurrences-missing}
 
 module _ {V : Type 0} (equal : V → V → Bool) where
   -- how many entries stand before v; all of them where v is missing
@@ -105,26 +106,8 @@ module _ {V : Type 0} (equal : V → V → Bool) (decides : (v w : V) → Decide
   occurrences-push w v [] = refl
   occurrences-push w v (x ∷ xs) = omega (arith, occurrences-push w v xs)
 
-  pub occurrences-exchanged : (w : V) (p : ℕ) (xs : List V) → occurrences equal w (exchanged p xs) ≡ occurrences equal w xs
-  occurrences-exchanged w zero xs = refl
-  occurrences-exchanged w (suc p) [] = refl
-  occurrences-exchanged w (suc zero) (x ∷ []) = refl
-  occurrences-exchanged w (suc zero) (x ∷ y ∷ xs) = omega arith
-  occurrences-exchanged w (suc (suc p)) (x ∷ xs) = omega (arith, occurrences-exchanged w (suc p) xs)
-
   pub hit-same : (v : V) → hit equal v v ≡ 1
   hit-same v = rw (decides v v .1 refl) refl
 
-  pub occurs : (v : V) (xs : List V) → stands equal v xs ≡ true → 1 ≤ occurrences equal v xs
-  occurs v xs s = omega (arith, hit-same v, occurrences-without v v xs s)
-
-  pub occurs-not : (v : V) (xs : List V) → stands equal v xs ≡ false → occurrences equal v xs ≡ 0
-  occurs-not v [] s = refl
-  occurs-not v (x ∷ xs) s =
-      elim (cases-bool (equal v x)) [
-        | inl e ↦ absurd (false≢true (sym (rw e at s)))
-        | inr e ↦ rw e (omega (arith, occurs-not v xs (rw e at s)))
-      ]
-
   pub stands-since : (v : V) (xs : List V) → 1 ≤ occurrences equal v xs → stands equal v xs ≡ true
-  stands-since v xs h = elim (cases-bool (stands equal v xs)) [ inl e ↦ e | inr e ↦ absurd (omega (arith, occurs-not v xs e)) ]
+  stands-since v xs h = elim (cases-bool (stands equal v xs)) [ inl e ↦ e | inr e ↦ absurd (omega (arith, occurrences-missing equal v xs e)) ]
