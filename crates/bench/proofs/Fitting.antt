@@ -30,14 +30,15 @@ module _ {K V : Type 0} (equal : V → V → Bool) (value : K → V) where
 
 module _ {K H R : Type 0} (key : KeyMeaning K) (house : LineMeaning H K) (rival : LineMeaning R K) where
   pub fits : (k : K) (h : H) (r : R) → loadFailed key house rival k h r ≡ None
-    → (appended (key .equal) (key .value) (house .limit h) k (house .keys h) ≡ (Ok tt, house .keys h ++ k ∷ []))
-    × (appended (key .equal) (key .value) (rival .limit r) k (rival .keys r) ≡ (Ok tt, rival .keys r ++ k ∷ []))
+      → (appended (key .equal) (key .value) (house .limit h) k (house .keys h) ≡ (Ok tt, house .keys h ++ k ∷ []))
+      × (appended (key .equal) (key .value) (rival .limit r) k (rival .keys r) ≡ (Ok tt, rival .keys r ++ k ∷ []))
   fits k h r e =
       let v = key .value k in
       let xs = map (key .value) (house .keys h) in
       let ys = map (key .value) (rival .keys r) in
       let all = checks (key .equal) (limitsOf key house rival h r) (load v) (record { house = xs; rival = ys; sums = zeros }) in
       let pass : AllPass all = passes all e in
-      let room = or-parts _ _ (pass .1 .1 .0) in
-      (appends (key .equal) (key .value) (house .limit h) k (house .keys h) (pass .1 .0) (room .0),
-       appends (key .equal) (key .value) (rival .limit r) k (rival .keys r) (matched (key .equal) v xs ys (pass .0) ∙ pass .1 .0) (room .1))
+      let room = or-parts _ _ (pass .1 .1 .0) in (
+        appends (key .equal) (key .value) (house .limit h) k (house .keys h) (pass .1 .0) (room .0),
+        appends (key .equal) (key .value) (rival .limit r) k (rival .keys r) (matched (key .equal) v xs ys (pass .0) ∙ pass .1 .0) (room .1),
+      )

@@ -15,7 +15,11 @@ use lines::Line;
 use lines::Orderly;
 
 // Appends a key on both sides.
-pub(crate) fn append_both<K: Key, H: Orderly<K>, R: Orderly<K>>(house: &mut H, rival: &mut R, key: K) -> Result<(), Denial>
+pub(crate) fn append_both<K: Key, H: Orderly<K>, R: Orderly<K>>(
+    house: &mut H,
+    rival: &mut R,
+    key: K,
+) -> Result<(), Denial>
     requires sound { ⌜ H·Line .sound (now house) ⌝ ∗ ⌜ R·Line .sound (now rival) ⌝ }
     requires fits { ⌜ loadFailed K·Key H·Line R·Line key (now house) (now rival) ≡ None ⌝ }
     ensures done { λ r. ⌜ r ≡ Ok tt ⌝ }
@@ -29,7 +33,12 @@ pub(crate) fn append_both<K: Key, H: Orderly<K>, R: Orderly<K>>(house: &mut H, r
 }
 
 // Brings the key at these places to the front of the house and to the goal of the rival.
-pub(crate) fn bring_both<K: Key, H: Orderly<K>, R: Orderly<K>>(house: &mut H, rival: &mut R, places: Places, goal: usize) -> Result<(), Denial>
+pub(crate) fn bring_both<K: Key, H: Orderly<K>, R: Orderly<K>>(
+    house: &mut H,
+    rival: &mut R,
+    places: Places,
+    goal: usize,
+) -> Result<(), Denial>
     requires sound { ⌜ H·Line .sound (now house) ⌝ ∗ ⌜ R·Line .sound (now rival) ⌝ }
     requires house { ⌜ 1 ≤ places .house ⌝ ∗ ⌜ places .house ≤ length (H·Line .keys (now house)) ⌝ }
     requires rival { ⌜ 1 ≤ goal ⌝ ∗ ⌜ goal ≤ places .rival ⌝ ∗ ⌜ places .rival ≤ length (R·Line .keys (now rival)) ⌝ }
@@ -44,7 +53,11 @@ pub(crate) fn bring_both<K: Key, H: Orderly<K>, R: Orderly<K>>(house: &mut H, ri
 }
 
 // Takes the key at these places out on both sides.
-pub(crate) fn take_both<K: Key, H: Orderly<K>, R: Orderly<K>>(house: &mut H, rival: &mut R, places: Places) -> Result<(), Denial>
+pub(crate) fn take_both<K: Key, H: Orderly<K>, R: Orderly<K>>(
+    house: &mut H,
+    rival: &mut R,
+    places: Places,
+) -> Result<(), Denial>
     requires sound { ⌜ H·Line .sound (now house) ⌝ ∗ ⌜ R·Line .sound (now rival) ⌝ }
     requires house { ⌜ 1 ≤ places .house ⌝ ∗ ⌜ places .house ≤ length (H·Line .keys (now house)) ⌝ }
     requires rival { ⌜ 1 ≤ places .rival ⌝ ∗ ⌜ places .rival ≤ length (R·Line .keys (now rival)) ⌝ }

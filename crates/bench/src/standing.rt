@@ -56,7 +56,12 @@ impl Loading {
     }
 
     // Appends a key on both sides, at no cost.
-    pub fn load<K: Key, H: Orderly<K>, R: Orderly<K>>(&mut self, house: &mut H, rival: &mut R, key: K) -> Result<(), Denial>
+    pub fn load<K: Key, H: Orderly<K>, R: Orderly<K>>(
+        &mut self,
+        house: &mut H,
+        rival: &mut R,
+        key: K,
+    ) -> Result<(), Denial>
         requires { ⌜ H·Line .sound (now house) ⌝ ∗ ⌜ R·Line .sound (now rival) ⌝ }
         ensures { λ r. ⌜ Called K·Key H·Line R·Line (load (K·Key .value key)) (now (house .entry)) (now (rival .entry)) (now (self .entry) .ledger) r (now (house .exit)) (now (rival .exit)) (now (self .exit) .ledger) ⌝ }
     {
@@ -69,7 +74,9 @@ impl Loading {
         requires { ⌜ H·Line .sound (now house) ⌝ ∗ ⌜ R·Line .sound (now rival) ⌝ }
         ensures { λ r. ⌜ Called K·Key H·Line R·Line start (now (house .entry)) (now (rival .entry)) (self .ledger) (Ok tt) (now (house .entry)) (now (rival .entry)) (r .ledger) ⌝ }
     {
-        Running { ledger: self.ledger }
+        Running {
+            ledger: self.ledger,
+        }
     }
 
     // The numbers, all zero.
@@ -82,7 +89,13 @@ impl Loading {
 
 impl Running {
     // A lookup: each side pays the key's place; then the house's key goes to the front and the rival's to the goal.
-    pub fn lookup<K: Key, H: Orderly<K>, R: Orderly<K>>(&mut self, house: &mut H, rival: &mut R, key: K, goal: usize) -> Result<(), Denial>
+    pub fn lookup<K: Key, H: Orderly<K>, R: Orderly<K>>(
+        &mut self,
+        house: &mut H,
+        rival: &mut R,
+        key: K,
+        goal: usize,
+    ) -> Result<(), Denial>
         requires { ⌜ H·Line .sound (now house) ⌝ ∗ ⌜ R·Line .sound (now rival) ⌝ }
         ensures { λ r. ⌜ Called K·Key H·Line R·Line (lookup (K·Key .value key) goal) (now (house .entry)) (now (rival .entry)) (now (self .entry) .ledger) r (now (house .exit)) (now (rival .exit)) (now (self .exit) .ledger) ⌝ }
     {
@@ -93,7 +106,13 @@ impl Running {
     }
 
     // An addition: each side pays one more than its count; the key is appended, then moved as after a lookup.
-    pub fn add<K: Key, H: Orderly<K>, R: Orderly<K>>(&mut self, house: &mut H, rival: &mut R, key: K, goal: usize) -> Result<(), Denial>
+    pub fn add<K: Key, H: Orderly<K>, R: Orderly<K>>(
+        &mut self,
+        house: &mut H,
+        rival: &mut R,
+        key: K,
+        goal: usize,
+    ) -> Result<(), Denial>
         requires { ⌜ H·Line .sound (now house) ⌝ ∗ ⌜ R·Line .sound (now rival) ⌝ }
         ensures { λ r. ⌜ Called K·Key H·Line R·Line (add (K·Key .value key) goal) (now (house .entry)) (now (rival .entry)) (now (self .entry) .ledger) r (now (house .exit)) (now (rival .exit)) (now (self .exit) .ledger) ⌝ }
     {
@@ -105,7 +124,12 @@ impl Running {
     }
 
     // A removal: each side pays the key's place, and the key is taken out.
-    pub fn remove<K: Key, H: Orderly<K>, R: Orderly<K>>(&mut self, house: &mut H, rival: &mut R, key: K) -> Result<(), Denial>
+    pub fn remove<K: Key, H: Orderly<K>, R: Orderly<K>>(
+        &mut self,
+        house: &mut H,
+        rival: &mut R,
+        key: K,
+    ) -> Result<(), Denial>
         requires { ⌜ H·Line .sound (now house) ⌝ ∗ ⌜ R·Line .sound (now rival) ⌝ }
         ensures { λ r. ⌜ Called K·Key H·Line R·Line (remove (K·Key .value key)) (now (house .entry)) (now (rival .entry)) (now (self .entry) .ledger) r (now (house .exit)) (now (rival .exit)) (now (self .exit) .ledger) ⌝ }
     {
@@ -116,7 +140,12 @@ impl Running {
     }
 
     // A paid exchange of the rival's keys at a place and at the next one. The house is not touched.
-    pub fn exchange<K: Key, H: Orderly<K>, R: Orderly<K>>(&mut self, house: &H, rival: &mut R, place: usize) -> Result<(), Denial>
+    pub fn exchange<K: Key, H: Orderly<K>, R: Orderly<K>>(
+        &mut self,
+        house: &H,
+        rival: &mut R,
+        place: usize,
+    ) -> Result<(), Denial>
         requires { ⌜ H·Line .sound (now house) ⌝ ∗ ⌜ R·Line .sound (now rival) ⌝ }
         ensures { λ r. ⌜ Called K·Key H·Line R·Line (exchange place) (now (house .entry)) (now (rival .entry)) (now (self .entry) .ledger) r (now (house .entry)) (now (rival .exit)) (now (self .exit) .ledger) ⌝ }
     {
@@ -133,7 +162,9 @@ impl Running {
         requires { ⌜ H·Line .sound (now house) ⌝ ∗ ⌜ R·Line .sound (now rival) ⌝ }
         ensures { λ r. ⌜ Called K·Key H·Line R·Line close (now (house .entry)) (now (rival .entry)) (self .ledger) (Ok tt) (now (house .entry)) (now (rival .entry)) (r .ledger) ⌝ }
     {
-        Closed { ledger: self.ledger }
+        Closed {
+            ledger: self.ledger,
+        }
     }
 
     // The numbers so far.

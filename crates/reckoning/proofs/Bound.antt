@@ -35,7 +35,7 @@ passes (check ∷ checks) e =
       | inr f ↦ (f, passes checks (rw f at e))
     ]
 
-within-goal : (goal place : ℕ) → outside goal place ≡ false → (1 ≤ goal) × (goal ≤ place)
+pub within-goal : (goal place : ℕ) → outside goal place ≡ false → (1 ≤ goal) × (goal ≤ place)
 within-goal goal place e = (grind (arith, tells), grind (arith, tells))
 
 agree : (a b : Bool) → cond a (not b) b ≡ false → b ≡ a

@@ -56,6 +56,12 @@ module _ {V : Type 0} (equal : V → V → Bool) (decides : (v w : V) → Decide
   walk-before v [] = refl
   walk-before v (x ∷ xs) = elim (equal v x) as (λ b. cond b 1 (suc (walk equal v xs)) ≡ suc (cond b 0 (suc (before equal v xs)))) [ true ↦ refl | false ↦ ap suc (walk-before v xs) ]
 
+  -- a value that stands in a list stands within it
+  pub walk-within : (v : V) (xs : List V) → stands equal v xs ≡ true → walk equal v xs ≤ length xs
+  walk-within v [] s = absurd (false≢true s)
+  walk-within v (x ∷ xs) s =
+      elim (cases-bool (equal v x)) [ inl e ↦ rw e (omega arith) | inr e ↦ rw e (omega (arith, walk-within v xs (rw e at s))) ]
+
   takenOut-before : (v : V) (xs : List V) → takenOut (suc (before equal v xs)) xs ≡ without equal v xs
   takenOut-before v [] = refl
   takenOut-before v (x ∷ xs) = elim (equal v x) as (λ b. takenOut (suc (cond b 0 (suc (before equal v xs)))) (x ∷ xs) ≡ cond b xs (x ∷ without equal v xs)) [ true ↦ refl | false ↦ ap (λ ys. x ∷ ys) (takenOut-before v xs) ]
