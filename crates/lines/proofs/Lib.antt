@@ -1,2 +1,4 @@
 pub mod Forward
 pub mod Kept
+pub mod Reach
+pub mod Found
