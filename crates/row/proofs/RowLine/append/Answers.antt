@@ -1,0 +1,27 @@
+use mathlib.Core.Path.{_≡_, sym, ap, _∙_}
+use mathlib.Core.Bool.{false}
+use mathlib.Core.List.{_∷_, [], _++_, map}
+use Prim.Native.Nat.{_+_}
+use native.Mathlib.Omega.{arith}
+use lib.ListN.{take, set}
+use Rattle.std.proofs.shelf.Lists.{take-more-set, length-set}
+use Rattle.std.proofs.shelf.Ways.{tells}
+use Rattle.lines.specs.Places.{stands}
+use Rattle.lines.proofs.Kept.{different-appended}
+use Rattle.row.proofs.Cells.{length-keys}
+use Rattle.row.proofs.RowLine.append.Needs as need
+
+pub returns : need.returns
+returns g c =
+    let row = c .args .self .now in
+    let kind = g .K·Key in
+    let m = length-set (row .cells .now) (row .count) (c .args .key) in
+    let n = length-keys (row .count) (row .cells .now) (c .pre .0) in
+    let keys : take (row .count + 1) (set (row .cells .now) (row .count) (c .args .key)) ≡ take (row .count) (row .cells .now) ++ c .args .key ∷ [] =
+        take-more-set (row .cells .now) (row .count) (c .args .key) (omega arith) in
+    let new : stands (kind .equal) (kind .value (c .args .key)) (map (kind .value) (take (row .count) (row .cells .now))) ≡ false = ? in
+    record {
+      sound = (?, rw keys (different-appended (kind .equal) (kind .value) (g .K·Key·met .decides) (take (row .count) (row .cells .now)) (c .args .key) (c .pre .1) new));
+      limit = ?;
+      keys = ?;
+    }
