@@ -19,9 +19,10 @@ returns g c =
     let n = length-keys (row .count) (row .cells .now) (c .pre .0) in
     let keys : take (row .count + 1) (set (row .cells .now) (row .count) (c .args .key)) ≡ take (row .count) (row .cells .now) ++ c .args .key ∷ [] =
         take-more-set (row .cells .now) (row .count) (c .args .key) (omega arith) in
-    let new : stands (kind .equal) (kind .value (c .args .key)) (map (kind .value) (take (row .count) (row .cells .now))) ≡ false = ? in
+    let new : stands (kind .equal) (kind .value (c .args .key)) (map (kind .value) (take (row .count) (row .cells .now))) ≡ false =
+        let found = c .place-of .ensures in let some = c .is-some .ensures in let not = c .if-is-some .left in grind arith in
     record {
-      sound = (?, rw keys (different-appended (kind .equal) (kind .value) (g .K·Key·met .decides) (take (row .count) (row .cells .now)) (c .args .key) (c .pre .1) new));
-      limit = ?;
-      keys = ?;
+      sound = (omega arith, rw keys (different-appended (kind .equal) (kind .value) (g .K·Key·met .decides) (take (row .count) (row .cells .now)) (c .args .key) (c .pre .1) new));
+      limit = omega arith;
+      keys = grind (arith, tells);
     }
