@@ -8,11 +8,11 @@ use lib.ListN.{length, getD, set, take}
 use Rattle.std.specs.Holes as holes
 use Rattle.std.proofs.shelf.Lists.{length-take-le}
 use Rattle.lines.specs.Orders.{takenOut, exchanged}
-use Rattle.row.specs.Rows.{rowKeys, rowLimit}
+use Rattle.row.specs.Rows.{limitOver}
 
 module _ {X : Type 0} where
   -- a row's keys are as many as its count
-  pub length-keys : (n : ℕ) (xs : List X) → n ≤ rowLimit xs → length (rowKeys n xs) ≡ n
+  pub length-keys : (n : ℕ) (xs : List X) → n ≤ limitOver xs → length (take n xs) ≡ n
   length-keys n xs h = length-take-le n xs (omega arith)
 
   -- a key is copied one cell forward: the cell to leave out moves on by one

@@ -5,13 +5,14 @@ ghost use Prim.Native.Nat.{_+_, _-_, _≤_, _<_};
 ghost use lib.ListN.{length, take};
 ghost use Rattle.lines.specs.Orders.{keyAt, takenOut, exchanged};
 ghost use Rattle.lines.specs.Places.{placeOf};
-ghost use Rattle.row.specs.Rows.{rowKeys, rowLimit, RowSound};
+ghost use Rattle.row.specs.Rows.{rowKeys, limitOver, rowLimit, RowSound};
 use keys::Denial;
 use keys::Key;
 use lines::Line;
 use lines::Orderly;
 
 // The first `count` cells hold the keys; what the others hold means nothing.
+#[derive(Drop)]
 pub struct Row<'a, K> {
     cells: &'a mut [K],
     count: usize,
@@ -20,9 +21,9 @@ pub struct Row<'a, K> {
 impl<'a, K: Key> Row<'a, K> {
     // An empty row over the cells, whatever they hold.
     pub fn new(cells: &'a mut [K]) -> Row<'a, K>
-        ensures sound { λ r. ⌜ RowSound (K·Key .equal) (K·Key .value) (r .count) (now (r .cells)) ⌝ }
-        ensures keys { λ r. ⌜ rowKeys (r .count) (now (r .cells)) ≡ [] ⌝ }
-        ensures limit { λ r. ⌜ rowLimit (now (r .cells)) ≡ rowLimit (now (cells .entry)) ⌝ }
+        ensures sound { λ r. ⌜ RowSound (K·Key .equal) (K·Key .value) r ⌝ }
+        ensures keys { λ r. ⌜ rowKeys r ≡ [] ⌝ }
+        ensures limit { λ r. ⌜ rowLimit r ≡ limitOver (now (cells .entry)) ⌝ }
     {
         Row { cells, count: 0 }
     }
@@ -69,11 +70,11 @@ fn exchange<K: Key>(cells: &mut [K], place: usize)
 }
 
 pub impl<'a, K: Key> Line<K> for Row<'a, K> as RowLine {
-    ghost sound = { λ s. RowSound (K·Key .equal) (K·Key .value) (s .count) (s .cells .now) };
+    ghost sound = { RowSound (K·Key .equal) (K·Key .value) };
 
-    ghost keys = { λ s. rowKeys (s .count) (s .cells .now) };
+    ghost keys = { rowKeys };
 
-    ghost limit = { λ s. rowLimit (s .cells .now) };
+    ghost limit = { rowLimit };
 
     fn count(&self) -> usize {
         self.count
