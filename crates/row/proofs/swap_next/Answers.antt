@@ -2,7 +2,7 @@ use mathlib.Core.Path.{_≡_, _∙_}
 use Prim.Native.Nat.{suc, _-_}
 use native.Mathlib.Omega.{arith}
 use Rattle.row.proofs.Cells.{swapped-neighbours}
-use Rattle.row.proofs.exchange.Needs as need
+use Rattle.row.proofs.swap_next.Needs as need
 
 pub returns : need.returns
 returns g c =
