@@ -1,4 +1,4 @@
--- The calls on the first cells: a key moved one cell forward, two neighbours swapped, and what the cells behind have no part in.
+-- How moves among all the cells are calls on the first of them, which hold the keys.
 use mathlib.Core.Path.{_≡_, refl, sym, ap, _∙_}
 use mathlib.Core.List.{List, [], _∷_}
 use Prim.Native.Nat.{ℕ, zero, suc, _+_, _-_, _≤_, _<_}
@@ -8,12 +8,13 @@ use lib.ListN.{length, getD, set, take}
 use Rattle.std.specs.Holes as holes
 use Rattle.std.proofs.shelf.Lists.{length-take-le}
 use Rattle.lines.specs.Orders.{takenOut, exchanged}
-use Rattle.row.specs.Rows.{limitOver}
+use Rattle.row.specs.declared.Row.{Row}
+use Rattle.row.specs.Rows.{rowKeys, rowLimit}
 
 module _ {X : Type 0} where
   -- a row's keys are as many as its count
-  pub length-keys : (n : ℕ) (xs : List X) → n ≤ limitOver xs → length (take n xs) ≡ n
-  length-keys n xs h = length-take-le n xs (omega arith)
+  pub length-keys : (row : Row X) → row .count ≤ rowLimit row → length (rowKeys row) ≡ row .count
+  length-keys row h = length-take-le (row .count) (row .cells .now) (omega arith)
 
   -- a key is copied one cell forward: the cell to leave out moves on by one
   moved : (p : ℕ) (xs : List X) (x : X) → suc p < length xs → x ≡ getD xs (suc p) x → takenOut (suc (suc p)) (set xs p x) ≡ takenOut (suc p) xs
