@@ -1,5 +1,4 @@
 use mathlib.Core.Path.{_≡_}
-use lib.ListN.{length}
 use Rattle.lines.specs.Orders.{takenOut}
 use Rattle.row.proofs.close_up.Given as given
 
