@@ -1,6 +1,6 @@
 -- A search through keys from the front: on past a key, found at a key, and nothing found.
-use mathlib.Core.Path.{_≡_, refl, sym, ap}
-use mathlib.Core.Bool.{Bool, true, false, _||_, cond}
+use mathlib.Core.Path.{_≡_}
+use mathlib.Core.Bool.{Bool, true, false}
 use mathlib.Core.List.{List, [], _∷_, map}
 use Prim.Native.Nat.{ℕ, zero, suc, _+_, _≤_, _<_}
 use native.Mathlib.Omega.{arith}
@@ -8,7 +8,7 @@ use native.Mathlib.Numerals.{add-one}
 use lib.ListN.{length, getD, take}
 use Rattle.std.specs.declared.option.Option.the-variants.{Some, None}
 use Rattle.std.proofs.shelf.Lists.{take-all}
-use Rattle.lines.specs.Places.{stands, walk, placeOf}
+use Rattle.lines.specs.Places.{stands, placeOf}
 
 module _ {K V : Type 0} (equal : V → V → Bool) (value : K → V) (v : V) where
   -- none of the first n keys has the value
