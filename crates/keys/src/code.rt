@@ -42,7 +42,9 @@ pub impl Key for Code as CodeKey {
         let [high, low] = spelled else {
             return Err(Denial::Layout);
         };
-        Ok(Code { number: *high as u16 * 256 + *low as u16 })
+        Ok(Code {
+            number: *high as u16 * 256 + *low as u16,
+        })
     }
 
     fn write(&self, buffer: &mut [u8]) -> Result<usize, Denial> {
