@@ -10,3 +10,6 @@ pub use denial::Denial;
 pub use key::Key;
 pub use name::Name;
 pub use name::NameKey;
+
+#[cfg(test)]
+mod tests;
