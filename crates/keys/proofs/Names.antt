@@ -16,7 +16,7 @@ use Rattle.std.specs.declared.option.Option.the-variants.{Some, None}
 use Rattle.std.proofs.shelf.Counted.{length-map-counting, getD-map-counting, fill-by-all}
 use Rattle.std.proofs.shelf.Elements.{all-getD, all-from-getD}
 use Rattle.std.proofs.shelf.Equals.{sameBytes-decides}
-use Rattle.std.proofs.shelf.Lists.{length-map, getD-map}
+use Rattle.std.proofs.shelf.Lists.{length-map, getD-map, ext-getD}
 use Rattle.std.proofs.shelf.Tests.{and-from, and-right, cond-true, cond-false, both-ways}
 use Rattle.std.proofs.shelf.Ways.{tells, decides-by-and}
 use Rattle.keys.specs.declared.name.Name.{Name}
@@ -36,10 +36,7 @@ byte-small b = grind (arith, tells)
 pub small-byte : (b : ℕ) → In b → nameByte (lower b) ≡ lower b
 small-byte b h = grind (arith, tells)
 
--- what the code's `lowered` tells of its byte
-pub lowered-some : (b c : ℕ) → Some c ≡ cond (inAlphabet b) (Some (lower b)) None → In b × (c ≡ lower b)
-lowered-some b c e = grind arith
-
+-- what the code's `lowered` tells of a byte outside
 pub lowered-none : (b : ℕ) → None ≡ cond (inAlphabet b) (Some (lower b)) None → inAlphabet b ≡ false
 lowered-none b e = grind arith
 
@@ -47,9 +44,9 @@ lowered-none b e = grind arith
 pub length-name : (k : Name) → length (nameOf k) ≡ nameLength (k .len)
 length-name k = length-map-counting (λ i. nameByte (getD (k .bytes) i 0)) 0 (nameLength (k .len))
 
-pub getD-name : (k : Name) (i : ℕ) → i < nameLength (k .len) → getD (nameOf k) i 0 ≡ nameByte (getD (k .bytes) i 0)
+pub getD-name : (k : Name) (i : ℕ) → i < length (nameOf k) → getD (nameOf k) i 0 ≡ nameByte (getD (k .bytes) i 0)
 getD-name k i h =
-    getD-map-counting (λ i. nameByte (getD (k .bytes) i 0)) 0 (nameLength (k .len)) i i 0 h (omega arith)
+    getD-map-counting (λ i. nameByte (getD (k .bytes) i 0)) 0 (nameLength (k .len)) i i 0 (rw length-name at h) (omega arith)
 
 -- bytes are read where each is in the alphabet, and not where one is outside
 all-in : (s : List ℕ) → Decides (all-pass inAlphabet s) (All In s)
@@ -72,23 +69,24 @@ module _ (s : List ℕ) where
 -- the name of a record is read as itself
 pub reads-name : (k : Name) → nameRead (nameOf k) ≡ Some (nameOf k)
 reads-name k =
-    reads (nameOf k) _ (nameLength (k .len)) (length-name k) (omega arith) (omega arith)
-    (λ i h. rw getD-name (byte-in (getD (k .bytes) i 0)))
-    (λ i h. rw getD-name (byte-small (getD (k .bytes) i 0)))
+    let long = length-name k in
+    reads (nameOf k) _ (nameLength (k .len)) long (omega arith) (omega arith)
+    (λ i h. rw (getD-name k i (omega arith)) (byte-in (getD (k .bytes) i 0)))
+    (λ i h. rw (getD-name k i (omega arith)) (byte-small (getD (k .bytes) i 0)))
 
 -- two names are apart by their lengths or by a place, and else the same
 module _ (a b : Name) where
   apart : (nameOf a ≡ nameOf b → ⊥) → sameBytes (nameOf a) (nameOf b) ≡ false
   apart differ = search (needs, sameBytes-decides)
 
-  pub apart-by-length : (nameLength (a .len) ≡ nameLength (b .len) → ⊥) → sameBytes (nameOf a) (nameOf b) ≡ false
-  apart-by-length differ = apart (λ e. differ (sym (length-name a) ∙ ap length e ∙ length-name b))
+  pub apart-by-length : (length (nameOf a) ≡ length (nameOf b) → ⊥) → sameBytes (nameOf a) (nameOf b) ≡ false
+  apart-by-length differ = apart (λ e. differ (ap length e))
 
-  pub apart-at : (i : ℕ) → i < nameLength (a .len) → i < nameLength (b .len) → (nameByte (getD (a .bytes) i 0) ≡ nameByte (getD (b .bytes) i 0) → ⊥) → sameBytes (nameOf a) (nameOf b) ≡ false
+  pub apart-at : (i : ℕ) → i < length (nameOf a) → i < length (nameOf b) → (nameByte (getD (a .bytes) i 0) ≡ nameByte (getD (b .bytes) i 0) → ⊥) → sameBytes (nameOf a) (nameOf b) ≡ false
   apart-at i h j differ =
       apart (λ e. differ (sym (getD-name a i h) ∙ ap (λ xs. getD xs i 0) e ∙ getD-name b i j))
 
-  pub same-name : nameLength (a .len) ≡ nameLength (b .len) → ((i : ℕ) → i < nameLength (a .len) → nameByte (getD (a .bytes) i 0) ≡ nameByte (getD (b .bytes) i 0)) → sameBytes (nameOf a) (nameOf b) ≡ true
+  pub same-name : length (nameOf a) ≡ length (nameOf b) → ((i : ℕ) → i < length (nameOf a) → nameByte (getD (a .bytes) i 0) ≡ nameByte (getD (b .bytes) i 0)) → sameBytes (nameOf a) (nameOf b) ≡ true
   same-name e each =
       sameBytes-decides _ _ .1
-      (fill-by-all (λ i. nameByte (getD (b .bytes) i 0)) (nameOf a) _ 0 (length-name a ∙ e) (λ i h. getD-name a i (omega arith) ∙ each i (omega arith)))
+      (ext-getD 0 _ _ e (λ i h. getD-name a i h ∙ each i h ∙ sym (getD-name b i (omega arith))))

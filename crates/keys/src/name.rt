@@ -2,11 +2,13 @@
 ghost use mathlib.Core.Path.{_≡_};
 ghost use mathlib.Core.Bool.{cond};
 ghost use mathlib.Core.List.{List};
-ghost use Prim.Native.Nat.{ℕ};
-ghost use Rattle.std.specs.Text.{lower};
+ghost use Prim.Native.Nat.{ℕ, _≤_};
+ghost use lib.Dec.{eqb};
+ghost use lib.ListN.{length};
+ghost use Rattle.std.specs.Text.{lower, within};
 ghost use Rattle.std.specs.shelf.Text.{sameBytes};
 ghost use Rattle.std.specs.declared.option.Option.the-variants.{Some, None};
-ghost use Rattle.keys.specs.Names.{inAlphabet, nameByte, nameLength, nameOf, nameRead};
+ghost use Rattle.keys.specs.Names.{inAlphabet, nameByte, nameOf, nameRead};
 use super::denial::Denial;
 use super::key::Key;
 
@@ -15,6 +17,16 @@ use super::key::Key;
 pub struct Name {
     pub bytes: [u8; 16],
     pub len: u8,
+}
+
+impl Name {
+    // The length of the record's name.
+    fn meant_len(&self) -> usize
+        ensures value { λ r. ⌜ r ≡ length (nameOf (now (self .entry))) ⌝ }
+        ensures bound { λ r. ⌜ r ≤ 16 ⌝ }
+    {
+        self.len.clamp(1, 16) as usize
+    }
 }
 
 // The byte as a name has it, or none outside the alphabet.
@@ -35,11 +47,18 @@ fn meant_byte(b: u8) -> u8
     lowered(b).unwrap_or(b'-')
 }
 
-// How many bytes a record means by its length: from 1 to 16.
-fn meant_len(len: u8) -> usize
-    ensures { λ r. ⌜ r ≡ nameLength len ⌝ }
+// Whether two records' bytes mean the same.
+fn same_byte(a: u8, b: u8) -> bool
+    ensures { λ r. ⌜ r ≡ eqb (nameByte a) (nameByte b) ⌝ }
 {
-    len.clamp(1, 16) as usize
+    meant_byte(a) == meant_byte(b)
+}
+
+// Whether a spelling may have this length.
+fn fits_name(len: usize) -> bool
+    ensures { λ r. ⌜ r ≡ within 1 16 len ⌝ }
+{
+    len >= 1 && len <= NameKey::LONGEST
 }
 
 pub impl Key for Name as NameKey {
@@ -70,7 +89,7 @@ pub impl Key for Name as NameKey {
     }
 
     fn read(spelled: &[u8]) -> Result<Name, Denial> {
-        if spelled.is_empty() || spelled.len() > Self::LONGEST {
+        if !fits_name(spelled.len()) {
             return Err(Denial::Layout);
         }
         let mut bytes = [0; 16];
@@ -87,7 +106,7 @@ pub impl Key for Name as NameKey {
     }
 
     fn write(&self, buffer: &mut [u8]) -> Result<usize, Denial> {
-        let len = meant_len(self.len);
+        let len = self.meant_len();
         if buffer.len() < len {
             return Err(Denial::NoRoom);
         }
@@ -98,12 +117,12 @@ pub impl Key for Name as NameKey {
     }
 
     fn same(&self, other: &Name) -> bool {
-        let len = meant_len(self.len);
-        if len != meant_len(other.len) {
+        let len = self.meant_len();
+        if len != other.meant_len() {
             return false;
         }
         for i in 0..len {
-            if meant_byte(self.bytes[i]) != meant_byte(other.bytes[i]) {
+            if !same_byte(self.bytes[i], other.bytes[i]) {
                 return false;
             }
         }

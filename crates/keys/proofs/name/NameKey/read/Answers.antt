@@ -2,15 +2,12 @@ use mathlib.Core.Path.{_≡_, sym, ap, _∙_}
 use mathlib.Core.Bool.{true}
 use Prim.Native.Nat.{ℕ, _≤_, _<_}
 use native.Mathlib.Omega.{arith}
-use borrow.Author.Count.{below-more}
 use lib.ListN.{length, getD}
 use Rattle.std.specs.Text.{lower}
-use Rattle.std.proofs.shelf.Edits.{fill-by-more}
-use Rattle.std.proofs.shelf.Lists.{length-set}
 use Rattle.std.proofs.shelf.Ways.{tells}
 use Rattle.keys.specs.Names.{inAlphabet, nameByte, nameLength}
 use Rattle.keys.specs.Spelling.{readAs}
-use Rattle.keys.proofs.Names.{reads, reads-not, small-byte, lowered-some, lowered-none}
+use Rattle.keys.proofs.Names.{reads, reads-not, small-byte, lowered-none}
 use Rattle.keys.proofs.name.NameKey.read.Needs as need
 
 pub returns-in-None : need.returns-in-None
@@ -19,19 +16,11 @@ returns-in-None c =
     let out = lowered-none (getD s (c .loop-i .i) 0) (c .in-None .ensures tt) in
     sym (ap readAs (reads-not s (c .loop-i .i) (omega arith) out))
 
-pub loop-i-again : need.loop-i-again
-loop-i-again c =
-    let s = c .args .spelled .now in
-    let i = c .loop-i .i in
-    let inv = c .loop-i .inv in
-    let low = lowered-some (getD s i 0) (c .in-Some .c) (c .in-Some .ensures tt) in
-    let filled = fill-by-more (λ k. lower (getD s k 0)) (c .loop-i .bytes) i 0 (omega arith) (inv .2) in
-    (simp length-set (inv .0), below-more _ _ (inv .1) (low .0), rw (low .1) filled)
-
 pub returns : need.returns
 returns c =
     let s = c .args .spelled .now in
     let some : 1 ≤ length s = grind (arith, tells) in
+    let few : length s ≤ 16 = grind (arith, tells) in
     let f : ℕ → ℕ = λ i. nameByte (getD (c .loop-i .bytes) i 0) in
     let ins : (i : ℕ) → i < c .loop-i .i → inAlphabet (getD s i 0) ≡ true = c .loop-i .inv .1 in
     let smalls : (i : ℕ) → i < c .loop-i .i → lower (getD s i 0) ≡ f i = λ i h. sym (ap nameByte (c .loop-i .inv .2 i h) ∙ small-byte (getD s i 0) (ins i h)) in
