@@ -1,3 +1,4 @@
 pub mod Denials
 pub mod Spelling
 pub mod Codes
+pub mod Names

@@ -2,8 +2,14 @@
 pub mod code;
 pub mod denial;
 pub mod key;
+pub mod name;
 
 pub use code::Code;
 pub use code::CodeKey;
 pub use denial::Denial;
 pub use key::Key;
+pub use name::Name;
+pub use name::NameKey;
+
+#[cfg(test)]
+mod tests;
