@@ -91,8 +91,8 @@ module _ {K H R : Type 0} (key : KeyMeaning K) (house : LineMeaning H K) (rival 
         let pass : AllPass all = passes all (ok .0) in
         let range = within-goal goal _ (pass .1 .1 .1 .1 .0) in
         let room = or-parts _ _ (pass .1 .1 .1 .0) in
-        let hp : places .house ≡ suc (length (house .keys h)) = ap (λ (p : Places). p .house) (ok .1) in
-        let rp : places .rival ≡ suc (length (rival .keys r)) = ap (λ (p : Places). p .rival) (ok .1) in
+        let hp : places .house ≡ suc (length (map (key .value) (house .keys h))) = ap (λ (p : Places). p .house) (ok .1) in
+        let rp : places .rival ≡ suc (length (map (key .value) (rival .keys r))) = ap (λ (p : Places). p .rival) (ok .1) in
         let hl : length (map (key .value) (house .keys h)) ≡ length (house .keys h) = length-map (house .keys h) (key .value) in
         let rl : length (map (key .value) (rival .keys r)) ≡ length (rival .keys r) = length-map (rival .keys r) (key .value) in (
           record {
@@ -143,8 +143,8 @@ module _ {K H R : Type 0} (key : KeyMeaning K) (house : LineMeaning H K) (rival 
         → sumsOf ledger′ ≡ served (places .house) (places .rival) (places .rival - goal) (sumsOf ledger)
         → benchOf key house rival h′ r′ ledger′ ≡ done (key .equal) (add (key .value k) goal) (benchOf key house rival h r ledger)
     add-done goal places e hk rk sums =
-        let hl : places .house ≡ suc (length (map (key .value) (house .keys h))) = ap (λ (p : Places). p .house) e ∙ ap suc (sym (length-map (house .keys h) (key .value))) in
-        let rl : places .rival ≡ suc (length (map (key .value) (rival .keys r))) = ap (λ (p : Places). p .rival) e ∙ ap suc (sym (length-map (rival .keys r) (key .value))) in
+        let hl : places .house ≡ suc (length (map (key .value) (house .keys h))) = ap (λ (p : Places). p .house) e in
+        let rl : places .rival ≡ suc (length (map (key .value) (rival .keys r))) = ap (λ (p : Places). p .rival) e in
         let hs = ap (map (key .value)) hk ∙ map-forward (key .value) (places .house) 1 (house .keys h ++ k ∷ []) ∙ (λ i. broughtForward (hl i) 1 (map-push (key .value) (house .keys h) k i)) in
         let rs = ap (map (key .value)) rk ∙ map-forward (key .value) (places .rival) goal (rival .keys r ++ k ∷ []) ∙ (λ i. broughtForward (rl i) goal (map-push (key .value) (rival .keys r) k i)) in
         let ss = sums ∙ (λ i. served (hl i) (rl i) (rl i - goal) (sumsOf ledger)) in

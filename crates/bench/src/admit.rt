@@ -1,5 +1,10 @@
 // The checks of each call, in their order, before anything is changed.
 ghost use mathlib.Core.Path.{_≡_};
+ghost use mathlib.Core.List.{map};
+ghost use mathlib.Core.Bool.{_&&_};
+ghost use Prim.Native.Nat.{_≤_};
+ghost use lib.Dec.{eqb};
+ghost use lib.ListN.{length};
 ghost use Rattle.reckoning.specs.Reckoning.{lookup, add, remove};
 ghost use Rattle.bench.specs.Admission.{admitted, failed, loadFailed, found, placesOf, nextPlaces};
 use super::ledger::Ledger;
@@ -15,6 +20,23 @@ pub(crate) struct Places {
     pub(crate) rival: usize,
 }
 
+// How many keys stand in a line.
+fn count_of<K: Key, L: Orderly<K>>(line: &L) -> usize
+    requires { ⌜ L·Line .sound (now line) ⌝ }
+    ensures value { λ r. ⌜ r ≡ length (map (K·Key .value) (L·Line .keys (now (line .entry)))) ⌝ }
+    ensures bound { λ r. ⌜ r ≤ 256 ⌝ }
+{
+    line.count()
+}
+
+// Whether no key stands in either line.
+pub(crate) fn both_empty<K: Key, H: Orderly<K>, R: Orderly<K>>(house: &H, rival: &R) -> bool
+    requires { ⌜ H·Line .sound (now house) ⌝ ∗ ⌜ R·Line .sound (now rival) ⌝ }
+    ensures { λ r. ⌜ r ≡ (eqb (length (map (K·Key .value) (H·Line .keys (now (house .entry))))) 0 && eqb (length (map (K·Key .value) (R·Line .keys (now (rival .entry))))) 0) ⌝ }
+{
+    count_of(house) == 0 && count_of(rival) == 0
+}
+
 // The places of a key that stands on both sides, or none where it stands on neither.
 fn find<K: Key, H: Orderly<K>, R: Orderly<K>>(
     house: &H,
@@ -24,8 +46,8 @@ fn find<K: Key, H: Orderly<K>, R: Orderly<K>>(
     requires { ⌜ H·Line .sound (now house) ⌝ ∗ ⌜ R·Line .sound (now rival) ⌝ }
     ensures { λ r. ⌜ r ≡ found K·Key H·Line R·Line (now (key .entry)) (now (house .entry)) (now (rival .entry)) ⌝ }
 {
-    let house_count = house.count();
-    let rival_count = rival.count();
+    let house_count = count_of(house);
+    let rival_count = count_of(rival);
     if house_count != rival_count {
         return Err(Denial::Unmatched);
     }
@@ -86,8 +108,8 @@ pub(crate) fn admit_load<K: Key, H: Orderly<K>, R: Orderly<K>>(
     if let Some(_) = find(house, rival, key)? {
         return Err(Denial::Present);
     }
-    let house_count = house.count();
-    let rival_count = rival.count();
+    let house_count = count_of(house);
+    let rival_count = count_of(rival);
     let house_limit = house.limit();
     let rival_limit = rival.limit();
     if house_count == house_limit || rival_count == rival_limit {

@@ -6,9 +6,11 @@ ghost use lib.ListN.{length};
 ghost use Rattle.std.specs.declared.option.Option.the-variants.{None};
 ghost use Rattle.std.specs.declared.result.Result.the-variants.{Ok};
 ghost use Rattle.lines.specs.Orders.{takenOut, broughtForward};
-ghost use Rattle.bench.specs.Benches.{limitsOf};
+ghost use Rattle.reckoning.specs.Reckoning.{start, close};
+ghost use Rattle.bench.specs.Benches.{limitsOf, Called};
 ghost use Rattle.bench.specs.Admission.{loadFailed};
 use super::admit::Places;
+use super::ledger::Ledger;
 use keys::Denial;
 use keys::Key;
 use lines::Line;
@@ -69,4 +71,13 @@ pub(crate) fn take_both<K: Key, H: Orderly<K>, R: Orderly<K>>(
 {
     house.take_out(places.house)?;
     rival.take_out(places.rival)
+}
+
+// The ledger as it is: starting and closing keep it, and the lines.
+pub(crate) fn kept<K: Key, H: Orderly<K>, R: Orderly<K>>(ledger: Ledger, house: &H, rival: &R) -> Ledger
+    requires { ⌜ H·Line .sound (now house) ⌝ ∗ ⌜ R·Line .sound (now rival) ⌝ }
+    ensures starts { λ r. ⌜ Called K·Key H·Line R·Line start (now (house .entry)) (now (rival .entry)) ledger (Ok tt) (now (house .entry)) (now (rival .entry)) r ⌝ }
+    ensures closes { λ r. ⌜ Called K·Key H·Line R·Line close (now (house .entry)) (now (rival .entry)) ledger (Ok tt) (now (house .entry)) (now (rival .entry)) r ⌝ }
+{
+    ledger
 }

@@ -9,8 +9,10 @@ use super::admit::admit_add;
 use super::admit::admit_load;
 use super::admit::admit_lookup;
 use super::admit::admit_remove;
+use super::admit::both_empty;
 use super::effect::append_both;
 use super::effect::bring_both;
+use super::effect::kept;
 use super::effect::take_both;
 use super::ledger::Ledger;
 use keys::Denial;
@@ -45,9 +47,7 @@ impl Loading {
         requires { ⌜ H·Line .sound (now house) ⌝ ∗ ⌜ R·Line .sound (now rival) ⌝ }
         ensures { λ r. ⌜ meant (λ (s : Loading). benchOf K·Key H·Line R·Line (now (house .entry)) (now (rival .entry)) (s .ledger)) r ≡ opened (K·Key .equal) (map (K·Key .value) (H·Line .keys (now (house .entry)))) (map (K·Key .value) (R·Line .keys (now (rival .entry)))) ⌝ }
     {
-        let house_count = house.count();
-        let rival_count = rival.count();
-        if house_count > 0 || rival_count > 0 {
+        if !both_empty(house, rival) {
             return Err(Denial::NotEmpty);
         }
         Ok(Loading {
@@ -75,7 +75,7 @@ impl Loading {
         ensures { λ r. ⌜ Called K·Key H·Line R·Line start (now (house .entry)) (now (rival .entry)) (self .ledger) (Ok tt) (now (house .entry)) (now (rival .entry)) (r .ledger) ⌝ }
     {
         Running {
-            ledger: self.ledger,
+            ledger: kept(self.ledger, house, rival),
         }
     }
 
@@ -163,7 +163,7 @@ impl Running {
         ensures { λ r. ⌜ Called K·Key H·Line R·Line close (now (house .entry)) (now (rival .entry)) (self .ledger) (Ok tt) (now (house .entry)) (now (rival .entry)) (r .ledger) ⌝ }
     {
         Closed {
-            ledger: self.ledger,
+            ledger: kept(self.ledger, house, rival),
         }
     }
 

@@ -1,22 +1,13 @@
-use mathlib.Core.Path.{_≡_, ap}
+use mathlib.Core.Path.{_≡_, sym, ap, _∙_}
 use mathlib.Core.List.{[], map}
-use native.Mathlib.Omega.{arith}
-use lib.ListN.{length-map}
-use Rattle.std.proofs.shelf.Ways.{tells}
 use Rattle.std.proofs.shelf.Lists.{nil-from-length}
+use Rattle.std.proofs.shelf.Tests.{and-parts, eqb-true}
 use Rattle.std.specs.declared.result.Result.the-variants.{Ok}
 use Rattle.bench.proofs.standing.Loading.open.Needs as need
 
-pub returns-then-house-count-gt0 : need.returns-then-house-count-gt0
-returns-then-house-count-gt0 g c =
-    let h = length-map (g .H·Line .keys (c .args .house .now)) (g .K·Key .value) in
-    let r = length-map (g .R·Line .keys (c .args .rival .now)) (g .K·Key .value) in
-    grind (arith, tells)
-
 pub returns : need.returns
 returns g c =
-    let h = length-map (g .H·Line .keys (c .args .house .now)) (g .K·Key .value) in
-    let r = length-map (g .R·Line .keys (c .args .rival .now)) (g .K·Key .value) in
-    let none : map (g .K·Key .value) (g .H·Line .keys (c .args .house .now)) ≡ [] = nil-from-length _ (omega arith) in
-    let nobody : map (g .K·Key .value) (g .R·Line .keys (c .args .rival .now)) ≡ [] = nil-from-length _ (omega arith) in
+    let empty = and-parts _ _ (sym (c .both-empty .ensures) ∙ c .if-not-both-empty .left) in
+    let none : map (g .K·Key .value) (g .H·Line .keys (c .args .house .now)) ≡ [] = nil-from-length _ (eqb-true _ _ (empty .0)) in
+    let nobody : map (g .K·Key .value) (g .R·Line .keys (c .args .rival .now)) ≡ [] = nil-from-length _ (eqb-true _ _ (empty .1)) in
     rw (none, nobody) (ap (λ sums. Ok (record { house = []; rival = []; sums = sums })) (c .zero .ensures))
