@@ -46,9 +46,9 @@ module _ {K H R : Type 0} (key : KeyMeaning K) (house : LineMeaning H K) (rival 
   -- the places behind the last ones
   abbrev pub nextPlaces : H → R → Places
   nextPlaces h r = record {
-      house = suc (length (valuesOf key house rival (house .keys h)));
-      rival = suc (length (valuesOf key house rival (rival .keys r)));
-    }
+    house = suc (length (valuesOf key house rival (house .keys h)));
+    rival = suc (length (valuesOf key house rival (rival .keys r)));
+  }
 
   -- the places of a key that stands on both sides, none where it stands on neither, and denied where the sides do not match
   abbrev pub found : K → H → R → Result (Option Places) Denial

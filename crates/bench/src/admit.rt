@@ -5,7 +5,7 @@ ghost use mathlib.Core.Bool.{_&&_};
 ghost use Prim.Native.Nat.{_≤_};
 ghost use lib.Dec.{eqb};
 ghost use lib.ListN.{length};
-ghost use Rattle.reckoning.specs.Reckoning.{lookup, add, remove};
+ghost use Rattle.reckoning.specs.Reckoning.{outside, lookup, add, remove};
 ghost use Rattle.bench.specs.Admission.{admitted, failed, loadFailed, found, placesOf, nextPlaces};
 use super::ledger::Ledger;
 use keys::Denial;
@@ -59,6 +59,13 @@ fn find<K: Key, H: Orderly<K>, R: Orderly<K>>(
     }
 }
 
+// Whether a goal is not from 1 to the place.
+fn is_outside(goal: usize, place: usize) -> bool
+    ensures { λ r. ⌜ r ≡ outside goal place ⌝ }
+{
+    goal < 1 || place < goal
+}
+
 // The checks of a removal: the counter, then that the key stands on both sides.
 pub(crate) fn admit_remove<K: Key, H: Orderly<K>, R: Orderly<K>>(
     ledger: Ledger,
@@ -90,7 +97,7 @@ pub(crate) fn admit_lookup<K: Key, H: Orderly<K>, R: Orderly<K>>(
     ensures { λ r. ⌜ r ≡ admitted (failed K·Key H·Line R·Line (lookup (K·Key .value (now (key .entry))) goal) (now (house .entry)) (now (rival .entry)) ledger) (placesOf K·Key H·Line R·Line (now (key .entry)) (now (house .entry)) (now (rival .entry))) ⌝ }
 {
     let places = admit_remove(ledger, house, rival, key)?;
-    if goal < 1 || places.rival < goal {
+    if is_outside(goal, places.rival) {
         return Err(Denial::BadGoal);
     }
     Ok(places)
@@ -136,7 +143,7 @@ pub(crate) fn admit_add<K: Key, H: Orderly<K>, R: Orderly<K>>(
         return Err(Denial::Exhausted);
     }
     let places = admit_load(house, rival, key)?;
-    if goal < 1 || places.rival < goal {
+    if is_outside(goal, places.rival) {
         return Err(Denial::BadGoal);
     }
     Ok(places)

@@ -74,7 +74,11 @@ pub(crate) fn take_both<K: Key, H: Orderly<K>, R: Orderly<K>>(
 }
 
 // The ledger as it is: starting and closing keep it, and the lines.
-pub(crate) fn kept<K: Key, H: Orderly<K>, R: Orderly<K>>(ledger: Ledger, house: &H, rival: &R) -> Ledger
+pub(crate) fn kept<K: Key, H: Orderly<K>, R: Orderly<K>>(
+    ledger: Ledger,
+    house: &H,
+    rival: &R,
+) -> Ledger
     requires { ⌜ H·Line .sound (now house) ⌝ ∗ ⌜ R·Line .sound (now rival) ⌝ }
     ensures starts { λ r. ⌜ Called K·Key H·Line R·Line start (now (house .entry)) (now (rival .entry)) ledger (Ok tt) (now (house .entry)) (now (rival .entry)) r ⌝ }
     ensures closes { λ r. ⌜ Called K·Key H·Line R·Line close (now (house .entry)) (now (rival .entry)) ledger (Ok tt) (now (house .entry)) (now (rival .entry)) r ⌝ }

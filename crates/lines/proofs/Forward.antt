@@ -1,5 +1,6 @@
 -- Bringing an entry forward: where it changes nothing, its length, and one exchange more.
 use mathlib.Core.Path.{_≡_, refl, sym, ap, _∙_}
+use mathlib.Core.Bool.{true, false}
 use mathlib.Core.Logic.{inl, inr}
 use mathlib.Core.List.{List, [], _∷_, _++_, map}
 use Prim.Native.Nat.{ℕ, zero, suc, _+_, _≤_, _<_}
@@ -7,8 +8,16 @@ use native.Mathlib.Omega.{arith}
 use lib.ListN.{length, take, drop}
 use Rattle.std.proofs.shelf.Lists.{drop-all, map-append, take-map, drop-map}
 use Rattle.std.proofs.shelf.Tests.{cases-lt}
-use Rattle.lines.specs.Orders.{takenOut, exchanged, broughtForward}
+use Rattle.std.proofs.shelf.Ways.{tells}
+use Rattle.lines.specs.Orders.{takenOut, exchanged, mayBringForward, broughtForward}
 use Rattle.lines.proofs.Kept.{map-takenOut}
+
+-- the range of the call, as a test and as orders
+pub forward-range : (from to n : ℕ) → mayBringForward from to n ≡ true → (1 ≤ to) × (to ≤ from) × (from ≤ n)
+forward-range from to n e = (grind (arith, tells), grind (arith, tells), grind (arith, tells))
+
+forward-range-not : (from to n : ℕ) → mayBringForward from to n ≡ false → 1 ≤ to → to ≤ from → from ≤ n → ⊥
+forward-range-not from to n e a b c = grind (arith, tells)
 
 module _ {X : Type 0} where
   pub length-exchanged : (p : ℕ) (xs : List X) → length (exchanged p xs) ≡ length xs
@@ -24,7 +33,7 @@ module _ {X : Type 0} where
   takenOut-past (suc zero) (x ∷ xs) h = absurd (omega arith)
   takenOut-past (suc (suc p)) (x ∷ xs) h = ap (λ ys. x ∷ ys) (takenOut-past (suc p) xs (omega arith))
 
-  pub forward-outside : (p q : ℕ) (xs : List X) → (1 ≤ q → q ≤ p → p ≤ length xs → ⊥) → broughtForward p q xs ≡ xs
+  forward-outside : (p q : ℕ) (xs : List X) → (1 ≤ q → q ≤ p → p ≤ length xs → ⊥) → broughtForward p q xs ≡ xs
   forward-outside zero q xs h = refl
   forward-outside (suc p) zero xs h = refl
   forward-outside (suc p) (suc zero) xs h =
@@ -34,6 +43,9 @@ module _ {X : Type 0} where
       ]
   forward-outside (suc p) (suc (suc q)) [] h = refl
   forward-outside (suc p) (suc (suc q)) (x ∷ xs) h = ap (λ ys. x ∷ ys) (forward-outside p (suc q) xs (λ a b d. h (omega arith) (omega arith) (omega arith)))
+
+  pub forward-denied : (p q : ℕ) (xs : List X) → mayBringForward p q (length xs) ≡ false → broughtForward p q xs ≡ xs
+  forward-denied p q xs e = forward-outside p q xs (forward-range-not p q (length xs) e)
 
   -- an entry that is brought to where it stands
   pub forward-stays : (p : ℕ) (xs : List X) → p ≤ length xs → broughtForward p p xs ≡ xs

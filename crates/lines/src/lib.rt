@@ -9,6 +9,13 @@ ghost use Rattle.lines.specs.Places.{placeOf, appended, Different};
 use keys::Denial;
 use keys::Key;
 
+// Whether the key at `from` of `count` keys can be brought to `to`.
+fn may_bring_forward(from: usize, to: usize, count: usize) -> bool
+    ensures { λ r. ⌜ r ≡ mayBringForward from to count ⌝ }
+{
+    1 <= to && to <= from && from <= count
+}
+
 // A line means a list of keys in order and a limit, the most keys that it takes. Places count from 1.
 // Each call may rely on the line being sound, and leaves it so, denied or not.
 pub trait Line<K: Key> {
@@ -69,8 +76,7 @@ pub trait Line<K: Key> {
         ensures gives { λ r. ⌜ r ≡ allowed (mayBringForward from to (length (keys (now (self .entry))))) ⌝ }
         ensures keys { λ _. ⌜ keys (now (self .exit)) ≡ broughtForward from to (keys (now (self .entry))) ⌝ }
     {
-        let count = self.count();
-        if to < 1 || from < to || count < from {
+        if !may_bring_forward(from, to, self.count()) {
             return Err(Denial::OutOfRange);
         }
         for place in (to..from).rev() {

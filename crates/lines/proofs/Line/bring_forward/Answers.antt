@@ -1,24 +1,31 @@
-use mathlib.Core.Path.{_≡_, refl, sym, ap, _∙_}
-use Prim.Native.Nat.{ℕ, suc, _-_}
+use mathlib.Core.Path.{_≡_, sym, ap, refl, _∙_}
+use mathlib.Core.Bool.{true, false}
+use Prim.Native.Nat.{ℕ, suc, _-_, _≤_}
 use native.Mathlib.Omega.{arith}
 use lib.ListN.{length}
 use borrow.Author.Needs.{needs}
 use Rattle.std.proofs.shelf.Ways.{tells}
-use Rattle.lines.specs.Orders.{exchanged, broughtForward}
-use Rattle.lines.proofs.Forward.{length-exchanged, forward-outside, forward-stays, forward-step}
+use Rattle.lines.specs.Orders.{allowed, exchanged, mayBringForward, broughtForward}
+use Rattle.lines.proofs.Forward.{forward-range, length-exchanged, forward-denied, forward-stays, forward-step}
 use Rattle.lines.proofs.Line.bring_forward.Needs as need
 
-pub returns-then-to-lt1 : need.returns-then-to-lt1
-returns-then-to-lt1 g c = let h = c .then-to-lt1 .either in let n = c .count-count .ensures in record {
-  sound = search needs;
-  limit = search needs;
-  gives = grind (arith, tells);
-  keys = sym (forward-outside (c .args .from) (c .args .to) (g .Self·Line .keys (c .args .self .now)) (λ a b d. omega arith));
-}
+pub returns-then-not-may-bring-forward : need.returns-then-not-may-bring-forward
+returns-then-not-may-bring-forward g c =
+    let xs = g .Self·Line .keys (c .args .self .now) in
+    let not : mayBringForward (c .args .from) (c .args .to) (length xs) ≡ false = ap (mayBringForward (c .args .from) (c .args .to)) (sym (c .count .ensures)) ∙ sym (c .may-bring-forward .ensures) ∙ c .if-not-may-bring-forward .taken in
+    record {
+      sound = search needs;
+      limit = search needs;
+      gives = ap allowed (sym not);
+      keys = sym (forward-denied (c .args .from) (c .args .to) xs not);
+    }
 
 pub loop-place-holds : need.loop-place-holds
 loop-place-holds g c =
-    (omega arith, omega arith, c .pre, refl, refl, sym (forward-stays (c .args .from) (g .Self·Line .keys (c .args .self .now)) (omega arith)))
+    let xs = g .Self·Line .keys (c .args .self .now) in
+    let may : mayBringForward (c .args .from) (c .args .to) (length xs) ≡ true = ap (mayBringForward (c .args .from) (c .args .to)) (sym (c .count .ensures)) ∙ sym (c .may-bring-forward .ensures) ∙ c .if-not-may-bring-forward .left in
+    let range = forward-range (c .args .from) (c .args .to) (length xs) may in
+    (may, range .1, omega arith, c .pre, refl, refl, sym (forward-stays (c .args .from) xs (range .2)))
 
 pub exchange-requires : need.exchange-requires
 exchange-requires g c κs = search needs
@@ -28,19 +35,22 @@ loop-place-again g c =
     let xs = g .Self·Line .keys (c .args .self .now) in
     let n = c .loop-place .place in
     let inv = c .loop-place .inv in
+    let range = forward-range (c .args .from) (c .args .to) (length xs) (inv .0) in
     let again : suc (n - 1) ≡ n = omega arith in
-    let step : exchanged (n - 1) (broughtForward (c .args .from) (suc (n - 1)) xs) ≡ broughtForward (c .args .from) (n - 1) xs = forward-step (c .args .from) (n - 1) xs (omega arith) (omega arith) (omega arith) in (
+    let step : exchanged (n - 1) (broughtForward (c .args .from) (suc (n - 1)) xs) ≡ broughtForward (c .args .from) (n - 1) xs = forward-step (c .args .from) (n - 1) xs (omega arith) (omega arith) (range .2) in (
+      inv .0,
       omega arith,
       omega arith,
       c .exchange .ensures .sound,
-      c .exchange .ensures .limit ∙ inv .3,
-      ap length (c .exchange .ensures .keys) ∙ length-exchanged _ _ ∙ inv .4,
-      c .exchange .ensures .keys ∙ ap (exchanged (n - 1)) (inv .5) ∙ rw again at step,
+      c .exchange .ensures .limit ∙ inv .4,
+      ap length (c .exchange .ensures .keys) ∙ length-exchanged _ _ ∙ inv .5,
+      c .exchange .ensures .keys ∙ ap (exchanged (n - 1)) (inv .6) ∙ rw again at step,
     )
 
 pub returns-in-Break-exchange : need.returns-in-Break-exchange
 returns-in-Break-exchange g c =
-    let n = c .loop-place .inv .4 in
+    let range = forward-range (c .args .from) (c .args .to) (length (g .Self·Line .keys (c .args .self .now))) (c .loop-place .inv .0) in
+    let n = c .loop-place .inv .5 in
     let was = c .in-Break-exchange .was tt in
     let gives = c .exchange .ensures .gives in
     let z : _≡_ {A = ℕ} 0 1 = grind (arith, tells) in
@@ -50,4 +60,4 @@ pub returns : need.returns
 returns g c =
     let inv = c .loop-place .inv in
     let at : c .loop-place .place ≡ c .args .to = omega arith in
-    record { sound = inv .2; limit = inv .3; gives = grind (arith, tells); keys = rw at at (inv .5) }
+    record { sound = inv .3; limit = inv .4; gives = ap allowed (sym (inv .0)); keys = rw at at (inv .6) }
