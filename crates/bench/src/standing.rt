@@ -1,5 +1,6 @@
 // The three standings of a bench: loading, then running, then closed. None goes back, and only `open` makes one.
 mod loads;
+mod progress;
 mod requests;
 mod result;
 

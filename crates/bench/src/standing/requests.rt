@@ -96,11 +96,4 @@ impl Running {
         let ledger = kept(self.ledger, house, rival);
         Closed { ledger }
     }
-
-    // The numbers so far.
-    pub fn ledger(&self) -> Ledger
-        ensures { λ r. ⌜ r ≡ now (self .entry) .ledger ⌝ }
-    {
-        self.ledger
-    }
 }
