@@ -1,3 +1,5 @@
 pub mod Segments
+pub mod Moves
+pub mod Orders
 pub mod Picked
 pub mod Cells

@@ -76,6 +76,9 @@ way-from-leads [] nexts at end h = refl
 way-from-leads (w ∷ ws) nexts at end h =
     rw (h .0) (way-step nexts w (length ws) (h .1) ∙ ap (λ us. w ∷ us) (way-from-leads ws nexts (getD nexts w 0) end (h .2)))
 
+pub runs-from-leads : (ws nexts : List ℕ) (at end n : ℕ) → length ws ≡ n → Leads nexts at ws end → Runs nexts at n
+runs-from-leads ws nexts at end n e h = rw (sym e) (ap length (way-from-leads ws nexts at end h))
+
 pub leads-join : (us vs nexts : List ℕ) (at mid end : ℕ) → Leads nexts at us mid → Leads nexts mid vs end → Leads nexts at (us ++ vs) end
 leads-join [] vs nexts at mid end h i = rw h i
 leads-join (u ∷ us) vs nexts at mid end h i = (h .0, h .1, leads-join us vs nexts (getD nexts u 0) mid end (h .2) i)

@@ -23,9 +23,13 @@ room cells = min 256 (length cells)
 abbrev pub chained : {K : Type 0} → List (Cell K) → ℕ → ℕ → List K
 chained cells head count = picked (keysIn cells) (way (nextsIn cells) head count)
 
--- one way runs through as many cells as the chain uses, and meets none twice; the keys stand in its first cells, and differ
-pub record Sound {K V : Type 0} (equal : V → V → Bool) (value : K → V) (cells : List (Cell K)) (head count : ℕ) : Type 0 where
-  pub within : count ≤ room cells
+-- one way runs through as many cells as the chain uses, and meets none twice
+pub record Whole {K : Type 0} (cells : List (Cell K)) (head : ℕ) : Type 0 where
   pub runs : length (way (nextsIn cells) head (room cells)) ≡ room cells
   pub apart : Different eqb (way (nextsIn cells) head (room cells))
+
+-- the way is whole, and the keys in its first cells, which are as many as `count`, differ
+pub record Sound {K V : Type 0} (equal : V → V → Bool) (value : K → V) (cells : List (Cell K)) (head count : ℕ) : Type 0 where
+  pub whole : Whole cells head
+  pub within : count ≤ room cells
   pub differ : Different equal (map value (chained cells head count))

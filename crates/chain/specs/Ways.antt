@@ -22,3 +22,10 @@ picked xs (w ∷ ws) = take 1 (drop w xs) ++ picked xs ws
 abbrev pub redirected : List ℕ → ℕ → ℕ → ℕ → List ℕ × ℕ
 redirected nexts head zero to = (nexts, to)
 redirected nexts head (suc n) to = (set nexts (beyond nexts head n) to, head)
+
+-- the entry at a place has passed the n entries behind it
+abbrev pub movedBack : ℕ → ℕ → List ℕ → List ℕ
+movedBack zero n ws = ws
+movedBack (suc p) n [] = []
+movedBack (suc zero) n (w ∷ ws) = take n ws ++ w ∷ drop n ws
+movedBack (suc (suc p)) n (w ∷ ws) = w ∷ movedBack (suc p) n ws

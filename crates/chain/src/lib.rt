@@ -2,9 +2,11 @@
 ghost use mathlib.Core.Path.{_≡_};
 ghost use mathlib.Core.List.{List, [], map};
 ghost use Prim.Native.Nat.{ℕ, _+_, _<_, _≤_};
+ghost use denote.Ref.{now};
 ghost use lib.ListN.{length, getD, set};
-ghost use Rattle.chain.specs.Ways.{way, beyond, picked, redirected};
-ghost use Rattle.chain.specs.Chains.{keysIn, nextsIn, room, chained, Sound};
+ghost use Rattle.lines.specs.Places.{placeOf};
+ghost use Rattle.chain.specs.Ways.{way, beyond, redirected, movedBack};
+ghost use Rattle.chain.specs.Chains.{keysIn, nextsIn, room, chained, Whole, Sound};
 use keys::Denial;
 use keys::Key;
 use lines::Line;
@@ -57,3 +59,176 @@ fn put<K: Key>(cells: &mut [Cell<K>], at: usize, key: K)
     };
     cells[at] = filled;
 }
+
+// Lets the way from `head` go on to `to` after some cells, and gives its head.
+fn redirect<K: Key>(cells: &mut [Cell<K>], head: usize, steps: usize, to: usize) -> usize
+    requires { ⌜ length (way (nextsIn (now cells)) head steps) ≡ steps ⌝ }
+    ensures keys { λ _. ⌜ keysIn (now (cells .exit)) ≡ keysIn (now (cells .entry)) ⌝ }
+    ensures nexts { λ r. ⌜ redirected (nextsIn (now (cells .entry))) head steps to ≡ (nextsIn (now (cells .exit)), r) ⌝ }
+{
+    if steps == 0 {
+        return to;
+    }
+    let before = walk(cells, head, steps - 1);
+    point(cells, before, to);
+    head
+}
+
+// Links the cell at a place of the way in again behind the `by` cells that follow it, and gives the way's head.
+fn move_back<K: Key>(cells: &mut [Cell<K>], head: usize, place: usize, by: usize) -> usize
+    requires whole { ⌜ Whole (now cells) head ⌝ }
+    requires range { ⌜ (1 ≤ place) × (place + by ≤ room (now cells)) ⌝ }
+    ensures keys { λ _. ⌜ keysIn (now (cells .exit)) ≡ keysIn (now (cells .entry)) ⌝ }
+    ensures way { λ r. ⌜ way (nextsIn (now (cells .exit))) r (room (now (cells .exit))) ≡ movedBack place by (way (nextsIn (now (cells .entry))) head (room (now (cells .entry)))) ⌝ }
+{
+    let moved = walk(cells, head, place - 1);
+    let after = walk(cells, moved, 1);
+    let behind = walk(cells, after, by);
+    point(cells, moved, behind);
+    let after = redirect(cells, after, by, moved);
+    redirect(cells, head, place - 1, after)
+}
+
+// Writes a key into the cell behind the way's first `count` cells.
+fn put_last<K: Key>(cells: &mut [Cell<K>], head: usize, count: usize, key: K)
+    requires { ⌜ length (way (nextsIn (now cells)) head (count + 1)) ≡ count + 1 ⌝ }
+    ensures keys { λ _. ⌜ keysIn (now (cells .exit)) ≡ set (keysIn (now (cells .entry))) (beyond (nextsIn (now (cells .entry))) head count) key ⌝ }
+    ensures nexts { λ _. ⌜ nextsIn (now (cells .exit)) ≡ nextsIn (now (cells .entry)) ⌝ }
+{
+    let free = walk(cells, head, count);
+    put(cells, free, key);
+}
+
+// The place of a key among the first `count` cells of the way.
+fn find<K: Key>(cells: &[Cell<K>], head: usize, count: usize, key: &K) -> Option<usize>
+    requires { ⌜ length (way (nextsIn (now cells)) head count) ≡ count ⌝ }
+    ensures { λ r. ⌜ r ≡ placeOf (K·Key .equal) (K·Key .value (now (key .entry))) (map (K·Key .value) (chained (now (cells .entry)) head count)) ⌝ }
+{
+    let mut here = head;
+    for passed in 0..count {
+        let cell = cells[here];
+        if key.same(&cell.key) {
+            return Some(passed + 1);
+        }
+        here = cell.next;
+    }
+    None
+}
+
+// Lets each of the first `count` cells point to the one that follows it.
+fn link<K: Key>(cells: &mut [Cell<K>], count: usize)
+    requires { ⌜ count ≤ length (now cells) ⌝ }
+    ensures keys { λ _. ⌜ keysIn (now (cells .exit)) ≡ keysIn (now (cells .entry)) ⌝ }
+    ensures nexts { λ _. ⌜ ((i : ℕ) → i < count → getD (nextsIn (now (cells .exit))) i 0 ≡ i + 1) ⌝ }
+{
+    for i in 0..count {
+        point(cells, i, i + 1);
+    }
+}
+
+// The cells that a chain uses: 256, or all where they are fewer.
+fn used<K: Key>(cells: &[Cell<K>]) -> usize
+    ensures { λ r. ⌜ r ≡ room (now (cells .entry)) ⌝ }
+{
+    let all = cells.len();
+    if all < 256 { all } else { 256 }
+}
+
+// A line of linked cells. One way runs from `head` through all cells that the chain uses: the keys' cells first, and then the free ones.
+pub struct Chain<'a, K> {
+    cells: &'a mut [Cell<K>],
+    head: usize,
+    count: usize,
+}
+
+impl<'a, K: Key> Chain<'a, K> {
+    // An empty chain over the cells, whatever they hold.
+    pub fn new(cells: &'a mut [Cell<K>]) -> Chain<'a, K>
+        ensures sound { λ r. ⌜ Sound (K·Key .equal) (K·Key .value) (now (r .cells)) (r .head) (r .count) ⌝ }
+        ensures keys { λ r. ⌜ chained (now (r .cells)) (r .head) (r .count) ≡ [] ⌝ }
+        ensures limit { λ r. ⌜ room (now (r .cells)) ≡ room (now (cells .entry)) ⌝ }
+    {
+        let limit = used(cells);
+        link(cells, limit);
+        Chain {
+            cells,
+            head: 0,
+            count: 0,
+        }
+    }
+}
+
+pub impl<'a, K: Key> Line<K> for Chain<'a, K> as ChainLine {
+    ghost sound = { λ s. Sound (K·Key .equal) (K·Key .value) (now (s .cells)) (s .head) (s .count) };
+
+    ghost keys = { λ s. chained (now (s .cells)) (s .head) (s .count) };
+
+    ghost limit = { λ s. room (now (s .cells)) };
+
+    fn count(&self) -> usize {
+        self.count
+    }
+
+    fn limit(&self) -> usize {
+        used(self.cells)
+    }
+
+    fn key_at(&self, place: usize) -> Result<K, Denial> {
+        let cells = &*self.cells;
+        let head = self.head;
+        let count = self.count;
+        if place < 1 || count < place {
+            return Err(Denial::OutOfRange);
+        }
+        let at = walk(cells, head, place - 1);
+        let cell = cells[at];
+        Ok(cell.key)
+    }
+
+    fn place_of(&self, key: &K) -> Option<usize> {
+        let cells = &*self.cells;
+        let head = self.head;
+        let count = self.count;
+        find(cells, head, count, key)
+    }
+
+    fn append(&mut self, key: K) -> Result<(), Denial> {
+        if self.place_of(&key).is_some() {
+            return Err(Denial::Present);
+        }
+        let limit = self.limit();
+        let head = self.head;
+        let count = self.count;
+        if count == limit {
+            return Err(Denial::Full);
+        }
+        put_last(self.cells, head, count, key);
+        self.count = count + 1;
+        Ok(())
+    }
+
+    fn take_out(&mut self, place: usize) -> Result<(), Denial> {
+        let head = self.head;
+        let count = self.count;
+        if place < 1 || count < place {
+            return Err(Denial::OutOfRange);
+        }
+        if place < count {
+            self.head = move_back(self.cells, head, place, count - place);
+        }
+        self.count = count - 1;
+        Ok(())
+    }
+
+    fn exchange(&mut self, place: usize) -> Result<(), Denial> {
+        let head = self.head;
+        let count = self.count;
+        if place < 1 || count <= place {
+            return Err(Denial::OutOfRange);
+        }
+        self.head = move_back(self.cells, head, place, 1);
+        Ok(())
+    }
+}
+
+pub impl<'a, K: Key> Orderly<K> for Chain<'a, K> as ChainOrderly {}
