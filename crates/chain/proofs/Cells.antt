@@ -1,14 +1,14 @@
 -- A cell that was read, and one written over it.
 use mathlib.Core.Path.{_≡_, refl, sym, ap, _∙_}
 use mathlib.Core.List.{List, map}
-use Prim.Native.Nat.{ℕ, suc, min, _<_}
+use Prim.Native.Nat.{ℕ, suc, min, _+_, _-_, _<_}
 use native.Mathlib.Omega.{arith}
 use lib.ListN.{length, getD, set}
 use Rattle.std.proofs.shelf.Lists.{map-set, set-getD, getD-map, length-map}
 use Rattle.chain.specs.declared.Cell.{Cell}
 use Rattle.chain.specs.Ways.{beyond}
 use Rattle.chain.specs.Chains.{keysIn, nextsIn, room}
-use Rattle.chain.proofs.Segments.{Runs, way-there, way-rest}
+use Rattle.chain.proofs.Segments.{Runs, way-there, way-rest, way-rear}
 
 -- what a write keeps
 map-kept : {X Y : Type 0} (f : X → Y) (xs : List X) (i : ℕ) (x y : X) → x ≡ getD xs i x → f y ≡ f x → map f (set xs i y) ≡ map f xs
@@ -52,3 +52,9 @@ module _ {K : Type 0} (cells : List (Cell K)) where
       let i = rw e at (h .0) in
       let j = rw e at (h .1) in
       rw (read-next here cell read (walk-there here r n e (h .0))) (way-rest (nextsIn cells) here n i, j)
+
+  -- the cell that a walk leads to
+  pub beyond-there : (m n head here : ℕ) → m < n → Runs (nextsIn cells) head n → here ≡ beyond (nextsIn cells) head m → here < length cells
+  beyond-there m n head here l h e =
+      let sum : m + suc (n - suc m) ≡ n = omega arith in
+      rw e (walk-there (beyond (nextsIn cells) head m) (suc (n - suc m)) (n - suc m) refl (way-rear m (suc (n - suc m)) n (nextsIn cells) head sum h))

@@ -3,3 +3,6 @@ pub mod Moves
 pub mod Orders
 pub mod Picked
 pub mod Cells
+pub mod Found
+pub mod Linked
+pub mod Sounds

@@ -11,6 +11,7 @@ use Rattle.std.proofs.shelf.Lists.{append-assoc}
 use Rattle.lines.specs.Orders.{takenOut, exchanged}
 use Rattle.lines.specs.Places.{occurrences}
 use Rattle.chain.specs.Ways.{picked}
+use Rattle.chain.proofs.Segments.{absent-first}
 
 module _ {X : Type 0} where
   pub picked-append : (xs : List X) (us vs : List ℕ) → picked xs (us ++ vs) ≡ picked xs us ++ picked xs vs
@@ -43,3 +44,21 @@ module _ {X : Type 0} where
   picked-exchanged (suc (suc p)) xs (w ∷ ws) h =
       let o = one xs w (h .0) in
       rw (o .1) (ap (λ ys. o .0 ∷ ys) (picked-exchanged (suc p) xs ws (h .1)))
+
+  -- a write elsewhere, and one here
+  drop-set-other : (xs : List X) (b w : ℕ) (x : X) → w ≢ b → take 1 (drop w (set xs b x)) ≡ take 1 (drop w xs)
+  drop-set-other [] b w x n = refl
+  drop-set-other (y ∷ xs) zero zero x n = absurd (n refl)
+  drop-set-other (y ∷ xs) zero (suc w) x n = refl
+  drop-set-other (y ∷ xs) (suc b) zero x n = refl
+  drop-set-other (y ∷ xs) (suc b) (suc w) x n = drop-set-other xs b w x (λ e. n (ap suc e))
+
+  pub picked-set-other : (xs : List X) (b : ℕ) (x : X) (ws : List ℕ) → occurrences eqb b ws ≡ 0 → picked (set xs b x) ws ≡ picked xs ws
+  picked-set-other xs b x [] o = refl
+  picked-set-other xs b x (w ∷ ws) o =
+      rw (drop-set-other xs b w x (absent-first b w ws o)) (ap (λ ys. take 1 (drop w xs) ++ ys) (picked-set-other xs b x ws (omega arith)))
+
+  pub one-set : (xs : List X) (b : ℕ) (x : X) → b < length xs → take 1 (drop b (set xs b x)) ≡ x ∷ []
+  one-set [] b x h = absurd (omega arith)
+  one-set (y ∷ xs) zero x h = refl
+  one-set (y ∷ xs) (suc b) x h = one-set xs b x (omega arith)

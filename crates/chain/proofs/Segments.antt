@@ -88,7 +88,7 @@ leads-within [] nexts at end h = tt
 leads-within (w ∷ ws) nexts at end h = (h .1, leads-within ws nexts (getD nexts w 0) end (h .2))
 
 -- an entry outside a segment may point anywhere
-absent-first : (b w : ℕ) (ws : List ℕ) → occurrences eqb b (w ∷ ws) ≡ 0 → w ≢ b
+pub absent-first : (b w : ℕ) (ws : List ℕ) → occurrences eqb b (w ∷ ws) ≡ 0 → w ≢ b
 absent-first b w ws h e = grind (arith, tells)
 
 pub leads-frame : (ws nexts : List ℕ) (at end b to : ℕ) → occurrences eqb b ws ≡ 0 → Leads nexts at ws end → Leads (set nexts b to) at ws end
