@@ -1,5 +1,5 @@
 -- A search along a way.
-use mathlib.Core.Path.{_≡_, refl, sym, ap, _∙_}
+use mathlib.Core.Path.{_≡_, refl, sym, ap, subst, _∙_}
 use mathlib.Core.Bool.{Bool, true, false, cond}
 use mathlib.Core.List.{List, [], _∷_, _++_, map}
 use Prim.Native.Nat.{ℕ, zero, suc, _+_, _≤_, _<_}
@@ -9,12 +9,13 @@ use lib.Seq.{drop-cons}
 use Rattle.std.proofs.shelf.Lists.{getD-map}
 use Rattle.std.specs.declared.option.Option.{Option}
 use Rattle.std.specs.declared.option.Option.the-variants.{Some, None}
+use Rattle.std.specs.Options.{isSome}
 use Rattle.lines.specs.Places.{stands, walk, placeOf}
 use Rattle.chain.specs.declared.Cell.{Cell}
-use Rattle.chain.specs.Ways.{way, picked}
+use Rattle.chain.specs.Ways.{way, beyond, picked}
 use Rattle.chain.specs.Chains.{keysIn, nextsIn, chained}
-use Rattle.chain.proofs.Segments.{way-step}
-use Rattle.chain.proofs.Cells.{length-keys, length-nexts, read-next}
+use Rattle.chain.proofs.Segments.{Runs, way-step}
+use Rattle.chain.proofs.Cells.{length-keys, length-nexts, read-next, walk-there, walk-on}
 
 -- n entries were passed, none of them v
 abbrev pub Passed : {V : Type 0} → (V → V → Bool) → V → List V → List V → ℕ → Type 0
@@ -42,3 +43,25 @@ module _ {K : Type 0} (cells : List (Cell K)) (here : ℕ) (cell : Cell K) (read
   chained-step n =
       let l : here < length (nextsIn cells) = omega (arith, length-nexts cells) in
       ap (picked (keysIn cells)) (way-step (nextsIn cells) here n l) ∙ ap (λ ks. ks ++ chained cells (getD (nextsIn cells) here 0) n) read-key ∙ ap (λ i. cell .key ∷ chained cells i n) (sym (read-next cells here cell read there))
+
+-- a search has come to a cell
+module _ {K V : Type 0} (equal : V → V → Bool) (value : K → V) (v : V) (all : List V) (cells : List (Cell K)) (here r n k : ℕ) (cell : Cell K) (some : r ≡ suc n) (read : cell ≡ getD cells here cell) (left : Runs (nextsIn cells) here r × Passed equal v all (map value (chained cells here r)) k) where
+  begins : Passed equal v all (value (cell .key) ∷ map value (chained cells (cell .next) n)) k
+  begins =
+      let P : List K → Type 0 = λ ks. Passed equal v all (map value ks) k in
+      let there : here < length cells = walk-there cells here r n some (left .0) in
+      subst P (ap (chained cells here) some ∙ chained-step cells here cell read there n) (left .1)
+
+  pub found-here : equal v (value (cell .key)) ≡ true → Some (k + 1) ≡ placeOf equal v all
+  found-here e = passed-found equal v all (value (cell .key)) (map value (chained cells (cell .next) n)) k e begins
+
+  pub passed-here : equal v (value (cell .key)) ≡ false → Runs (nextsIn cells) (cell .next) n × Passed equal v all (map value (chained cells (cell .next) n)) (k + 1)
+  passed-here e = (walk-on cells here r n (beyond (nextsIn cells) here r) cell some read (left .0, refl) .0, passed-more equal v all (value (cell .key)) (map value (chained cells (cell .next) n)) k e begins)
+
+-- a search that found nothing
+pub missing : {V : Type 0} (equal : V → V → Bool) (v : V) (xs : List V) (o : Option ℕ) → o ≡ placeOf equal v xs → isSome o ≡ false → stands equal v xs ≡ false
+missing equal v xs o e h = at (stands equal v xs) refl
+  where
+    at : (b : Bool) → stands equal v xs ≡ b → b ≡ false
+    at true t = sym (ap isSome (e ∙ rw t)) ∙ h
+    at false t = refl

@@ -64,20 +64,27 @@ module _ {X : Type 0} where
   take-exchanged (suc zero) (suc (suc n)) (x ∷ y ∷ xs) h = refl
   take-exchanged (suc (suc p)) (suc n) (x ∷ xs) h = ap (λ ys. x ∷ ys) (take-exchanged (suc p) n xs (omega arith))
 
-  pub exchanged-past : (p : ℕ) (xs : List X) → length xs ≤ p → exchanged p xs ≡ xs
-  exchanged-past zero xs h = refl
-  exchanged-past (suc p) [] h = refl
-  exchanged-past (suc zero) (x ∷ []) h = refl
-  exchanged-past (suc zero) (x ∷ y ∷ xs) h = absurd (omega arith)
-  exchanged-past (suc (suc p)) (x ∷ xs) h = ap (λ ys. x ∷ ys) (exchanged-past (suc p) xs (omega arith))
+  -- outside the range
+  pub exchanged-outside : (p : ℕ) (xs : List X) → (1 ≤ p → p < length xs → ⊥) → exchanged p xs ≡ xs
+  exchanged-outside zero xs h = refl
+  exchanged-outside (suc p) [] h = refl
+  exchanged-outside (suc zero) (x ∷ []) h = refl
+  exchanged-outside (suc zero) (x ∷ y ∷ xs) h = absurd (h (omega arith) (omega arith))
+  exchanged-outside (suc (suc p)) (x ∷ xs) h = ap (λ ys. x ∷ ys) (exchanged-outside (suc p) xs (λ a b. h (omega arith) (omega arith)))
+
+  pub takenOut-outside : (p : ℕ) (xs : List X) → (1 ≤ p → p ≤ length xs → ⊥) → takenOut p xs ≡ xs
+  takenOut-outside zero xs h = refl
+  takenOut-outside (suc p) [] h = refl
+  takenOut-outside (suc zero) (x ∷ xs) h = absurd (h (omega arith) (omega arith))
+  takenOut-outside (suc (suc p)) (x ∷ xs) h = ap (λ ys. x ∷ ys) (takenOut-outside (suc p) xs (λ a b. h (omega arith) (omega arith)))
 
   -- the key at a place
   pub keyAt-at : (xs ys : List X) (y : X) → keyAt (suc (length xs)) (xs ++ y ∷ ys) ≡ Ok y
   keyAt-at [] ys y = refl
   keyAt-at (x ∷ xs) ys y = keyAt-at xs ys y
 
-  pub keyAt-past : (p : ℕ) (xs : List X) → length xs < p → keyAt p xs ≡ Err OutOfRange
-  keyAt-past zero xs h = refl
-  keyAt-past (suc p) [] h = refl
-  keyAt-past (suc zero) (x ∷ xs) h = absurd (omega arith)
-  keyAt-past (suc (suc p)) (x ∷ xs) h = keyAt-past (suc p) xs (omega arith)
+  pub keyAt-outside : (p : ℕ) (xs : List X) → (1 ≤ p → p ≤ length xs → ⊥) → keyAt p xs ≡ Err OutOfRange
+  keyAt-outside zero xs h = refl
+  keyAt-outside (suc p) [] h = refl
+  keyAt-outside (suc zero) (x ∷ xs) h = absurd (h (omega arith) (omega arith))
+  keyAt-outside (suc (suc p)) (x ∷ xs) h = keyAt-outside (suc p) xs (λ a b. h (omega arith) (omega arith))

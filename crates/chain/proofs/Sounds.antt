@@ -122,7 +122,27 @@ module _ {K V : Type 0} (equal : V → V → Bool) (value : K → V) (cells : Li
     room-appended = ap (min 256) (sym (length-nexts others) ∙ ap length nexts ∙ length-nexts cells)
 
     pub chained-appended : chained others head more ≡ chained cells head count ++ key ∷ []
-    chained-appended = ?
+    chained-appended =
+        let ws : List ℕ = way (nextsIn cells) head count in
+        let there : free < length cells = beyond-there cells count (room cells) head free room-left (s .whole .runs) is-free in
+        let n : free < length (nextsIn cells) = omega (arith, length-nexts cells) in
+        let k : free < length (keysIn cells) = omega (arith, length-keys cells) in
+        let past : ℕ = room cells - suc count in
+        let rest : List ℕ = way (nextsIn cells) (getD (nextsIn cells) free 0) past in
+        let all : way (nextsIn cells) head (room cells) ≡ ws ++ free ∷ rest =
+          way-parts count (suc past) (room cells) (nextsIn cells) head (omega arith) (s .whole .runs) ∙ ap (λ i. ws ++ way (nextsIn cells) i (suc past)) (sym is-free)
+          ∙ ap (λ vs. ws ++ vs) (way-step (nextsIn cells) free past n)
+        in
+        let front : way (nextsIn cells) head (suc count) ≡ ws ++ free ∷ [] =
+          way-parts count 1 (suc count) (nextsIn cells) head (omega arith) (runs-to (suc count) room-left) ∙ ap (λ i. ws ++ way (nextsIn cells) i 1) (sym is-free)
+          ∙ ap (λ vs. ws ++ vs) (way-step (nextsIn cells) free 0 n)
+        in
+        let absent : occurrences eqb free ws ≡ 0 = apart-front ws rest free (subst (Different eqb) all (s .whole .apart)) in
+        ap (λ ns. picked (keysIn others) (way ns head more)) nexts ∙ ap (λ ks. picked ks (way (nextsIn cells) head more)) keys
+        ∙ ap (λ i. picked (set (keysIn cells) free key) (way (nextsIn cells) head i)) is-more ∙ ap (picked (set (keysIn cells) free key)) front
+        ∙ picked-append (set (keysIn cells) free key) ws (free ∷ [])
+        ∙ ap (λ ks. ks ++ picked (set (keysIn cells) free key) (free ∷ [])) (picked-set-other (keysIn cells) free key ws absent)
+        ∙ ap (λ ks. chained cells head count ++ (ks ++ [])) (one-set (keysIn cells) free key k)
 
     pub sound-appended : ((v w : V) → Decides (equal v w) (v ≡ w)) → stands equal (value key) (map value (chained cells head count)) ≡ false → Sound equal value others head more
     sound-appended decides h =

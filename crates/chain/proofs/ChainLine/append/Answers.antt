@@ -1,0 +1,34 @@
+use mathlib.Core.Path.{_≡_, refl, sym, ap, _∙_}
+use mathlib.Core.Bool.{false}
+use mathlib.Core.List.{map}
+use Prim.Native.Nat.{suc, _+_, _≤_, _<_}
+use native.Mathlib.Omega.{arith}
+use lib.ListN.{length}
+use Rattle.std.proofs.shelf.Ways.{tells}
+use Rattle.lines.specs.Places.{stands}
+use Rattle.chain.specs.Ways.{beyond}
+use Rattle.chain.specs.Chains.{nextsIn, chained, room}
+use Rattle.chain.proofs.Found.{missing}
+use Rattle.chain.proofs.Sounds.{length-chained, runs-to, room-appended, chained-appended, sound-appended}
+use Rattle.chain.proofs.ChainLine.append.Needs as need
+
+pub returns-then-count-limit : need.returns-then-count-limit
+returns-then-count-limit g c =
+    let line = c .args .self .now in
+    let n : length (chained (line .cells .now) (line .head) (line .count)) ≡ line .count = length-chained (g .K·Key .equal) (g .K·Key .value) (line .cells .now) (line .head) (line .count) (c .pre) in
+    let new : stands (g .K·Key .equal) (g .K·Key .value (c .args .key)) (map (g .K·Key .value) (chained (line .cells .now) (line .head) (line .count))) ≡ false = missing (g .K·Key .equal) (g .K·Key .value (c .args .key)) (map (g .K·Key .value) (chained (line .cells .now) (line .head) (line .count))) (c .place-of .result) (c .place-of .ensures) (sym (c .is-some .ensures) ∙ c .if-is-some .left) in
+    record {
+      sound = c .pre;
+      limit = refl;
+      keys = grind (arith, tells);
+    }
+
+pub put-last-requires : need.put-last-requires
+put-last-requires g c κs =
+    let line = c .args .self .now in
+    let l : line .count ≤ room (line .cells .now) = c .pre .within in
+    let e : c .limit-limit .result ≡ room (line .cells .now) = c .limit-limit .ensures in
+    runs-to (g .K·Key .equal) (g .K·Key .value) (line .cells .now) (line .head) (line .count) (c .pre) (line .count + 1) (omega arith)
+
+pub returns : need.returns
+returns g c = ?
