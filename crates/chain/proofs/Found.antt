@@ -63,5 +63,5 @@ pub missing : {V : Type 0} (equal : V → V → Bool) (v : V) (xs : List V) (o :
 missing equal v xs o e h = at (stands equal v xs) refl
   where
     at : (b : Bool) → stands equal v xs ≡ b → b ≡ false
-    at true t = sym (ap isSome (e ∙ rw t)) ∙ h
+    at true t = let some : o ≡ Some (walk equal v xs) = e ∙ ap (λ b. cond b (Some (walk equal v xs)) None) t in sym (ap isSome some) ∙ h
     at false t = refl

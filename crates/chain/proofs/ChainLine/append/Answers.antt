@@ -8,6 +8,7 @@ use Rattle.std.proofs.shelf.Ways.{tells}
 use Rattle.lines.specs.Places.{stands}
 use Rattle.chain.specs.Ways.{beyond}
 use Rattle.chain.specs.Chains.{nextsIn, chained, room}
+use Rattle.chain.proofs.Orders.{appended-new}
 use Rattle.chain.proofs.Found.{missing}
 use Rattle.chain.proofs.Sounds.{length-chained, runs-to, room-appended, chained-appended, sound-appended}
 use Rattle.chain.proofs.ChainLine.append.Needs as need
@@ -31,4 +32,18 @@ put-last-requires g c κs =
     runs-to (g .K·Key .equal) (g .K·Key .value) (line .cells .now) (line .head) (line .count) (c .pre) (line .count + 1) (omega arith)
 
 pub returns : need.returns
-returns g c = ?
+returns g c =
+    let line = c .args .self .now in
+    let others = c .put-last .last .cells in
+    let free = beyond (nextsIn (line .cells .now)) (line .head) (line .count) in
+    let l : line .count < room (line .cells .now) = omega (arith, c .pre .within, c .limit-limit .ensures, c .if-count-limit .left) in
+    let n : length (chained (line .cells .now) (line .head) (line .count)) ≡ line .count = length-chained (g .K·Key .equal) (g .K·Key .value) (line .cells .now) (line .head) (line .count) (c .pre) in
+    let more : line .count + 1 ≡ suc (line .count) = omega arith in
+    let new : stands (g .K·Key .equal) (g .K·Key .value (c .args .key)) (map (g .K·Key .value) (chained (line .cells .now) (line .head) (line .count))) ≡ false = missing (g .K·Key .equal) (g .K·Key .value (c .args .key)) (map (g .K·Key .value) (chained (line .cells .now) (line .head) (line .count))) (c .place-of .result) (c .place-of .ensures) (sym (c .is-some .ensures) ∙ c .if-is-some .left) in
+    record {
+      sound = sound-appended (g .K·Key .equal) (g .K·Key .value) (line .cells .now) (line .head) (line .count) (c .pre) others (c .args .key) free (line .count + 1) more l refl (c .put-last .ensures .keys) (c .put-last .ensures .nexts) (g .K·Key·met .decides) new;
+      limit = room-appended (g .K·Key .equal) (g .K·Key .value) (line .cells .now) (line .head) (line .count) (c .pre) others (c .args .key) free (line .count + 1) more l refl (c .put-last .ensures .keys) (c .put-last .ensures .nexts);
+      keys = appended-new (g .K·Key .equal) (g .K·Key .value) (room (line .cells .now)) (c .args .key) (chained (line .cells .now) (line .head) (line .count)) (chained others (line .head) (line .count + 1)) new (λ e. omega arith) (
+        chained-appended (g .K·Key .equal) (g .K·Key .value) (line .cells .now) (line .head) (line .count) (c .pre) others (c .args .key) free (line .count + 1) more l refl (c .put-last .ensures .keys) (c .put-last .ensures .nexts)
+      );
+    }
