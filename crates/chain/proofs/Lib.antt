@@ -1,6 +1,7 @@
 pub mod Segments
 pub mod Moves
 pub mod Orders
+pub mod Back
 pub mod Picked
 pub mod Cells
 pub mod Found

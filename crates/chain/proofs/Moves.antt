@@ -5,13 +5,12 @@ use Prim.Native.Nat.{ℕ, zero, suc, _+_, _≤_, _<_}
 use native.Mathlib.Omega.{arith}
 use lib.Dec.{eqb}
 use lib.ListN.{length, getD, set}
-use Rattle.std.proofs.shelf.Lists.{append-assoc, length-append}
+use Rattle.std.proofs.shelf.Lists.{append-assoc}
 use Rattle.std.proofs.shelf.Tests.{eq-eqb}
 use Rattle.lines.specs.Places.{occurrences, Different}
 use Rattle.lines.proofs.Kept.{occurrences-append}
-use Rattle.chain.specs.Ways.{way, beyond, redirected, movedBack}
-use Rattle.chain.proofs.Orders.{movedBack-at}
-use Rattle.chain.proofs.Segments.{Leads, Runs, way-there, way-step, way-rest, way-front, way-rear, way-parts, leads-from-way, way-from-leads, runs-from-leads, leads-frame, leads-pointed}
+use Rattle.chain.specs.Ways.{beyond, redirected}
+use Rattle.chain.proofs.Segments.{Leads, leads-frame, leads-pointed}
 
 -- an entry of a list without repetitions stands neither before nor behind itself
 here-once : (us vs : List ℕ) (b : ℕ) → occurrences eqb b (us ++ b ∷ vs) ≡ occurrences eqb b us + (1 + occurrences eqb b vs)
@@ -101,75 +100,3 @@ module _ (us vs ws nexts nexts′ nexts″ : List ℕ) (head moved after behind 
 
       pub leads-moved : (nexts‴ : List ℕ) (head′ m : ℕ) → length us ≡ m → redirected nexts″ head m after′ ≡ (nexts‴, head′) → Leads nexts‴ head′ (us ++ (vs ++ moved ∷ ws)) end
       leads-moved nexts‴ head′ m is made′ = leads-redirected us nexts″ nexts‴ head moved after′ head′ m is made′ before-stay-again (vs ++ moved ∷ ws) end still-apart joined
-
--- the parts of a way of n entries around the entry after m: m before it, j behind it, and k more
-module _ (m j k n : ℕ) (nexts : List ℕ) (head moved after behind : ℕ) (sum : m + suc (j + k) ≡ n) (runs : Runs nexts head n) (is-moved : moved ≡ beyond nexts head m) where
-  pub runs-before : Runs nexts head m
-  runs-before = way-front m (suc (j + k)) n nexts head sum runs
-
-  runs-on : Runs nexts moved (suc (j + k))
-  runs-on = rw is-moved (way-rear m (suc (j + k)) n nexts head sum runs)
-
-  pub moved-there : moved < length nexts
-  moved-there = way-there nexts moved (j + k) runs-on
-
-  pub runs-one : Runs nexts moved 1
-  runs-one = way-front 1 (j + k) (suc (j + k)) nexts moved (omega arith) runs-on
-
-  pub leads-before : Leads nexts head (way nexts head m) moved
-  leads-before = rw is-moved (leads-from-way m nexts head runs-before)
-
-  module _ (is-after : after ≡ getD nexts moved 0) where
-    runs-after : Runs nexts after (j + k)
-    runs-after = rw is-after (way-rest nexts moved (j + k) runs-on)
-
-    pub runs-passed : Runs nexts after j
-    runs-passed = way-front j k (j + k) nexts after refl runs-after
-
-    module _ (is-behind : behind ≡ beyond nexts after j) where
-      pub leads-passed : Leads nexts after (way nexts after j) behind
-      leads-passed = rw is-behind (leads-from-way j nexts after runs-passed)
-
-      pub runs-rest : Runs nexts behind k
-      runs-rest = rw is-behind (way-rear j k (j + k) nexts after refl runs-after)
-
-      pub all-parts : way nexts head n ≡ way nexts head m ++ moved ∷ (way nexts after j ++ way nexts behind k)
-      all-parts =
-          way-parts m (suc (j + k)) n nexts head sum runs
-          ∙ ap (λ i. way nexts head m ++ way nexts i (suc (j + k))) (sym is-moved)
-          ∙ ap (λ ws. way nexts head m ++ ws) (way-step nexts moved (j + k) moved-there)
-          ∙ ap (λ i. way nexts head m ++ moved ∷ way nexts i (j + k)) (sym is-after)
-          ∙ ap (λ ws. way nexts head m ++ moved ∷ ws) (way-parts j k (j + k) nexts after refl runs-after)
-          ∙ ap (λ i. way nexts head m ++ moved ∷ (way nexts after j ++ way nexts i k)) (sym is-behind)
-
-      -- the entry moves back
-      module _ (nexts′ : List ℕ) (apart : Different eqb (way nexts head n)) (pointed : nexts′ ≡ set nexts moved behind) where
-        parts-apart : Different eqb (way nexts head m ++ moved ∷ (way nexts after j ++ way nexts behind k))
-        parts-apart = subst (Different eqb) all-parts apart
-
-        pub passed-run : Runs nexts′ after j
-        passed-run = runs-from-leads (way nexts after j) nexts′ after behind j runs-passed (
-          passed-stay (way nexts head m) (way nexts after j) (way nexts behind k) nexts nexts′ nexts head moved after behind after pointed parts-apart leads-before leads-passed
-        )
-
-        module _ (nexts″ : List ℕ) (after′ : ℕ) (made : redirected nexts′ after j moved ≡ (nexts″, after′)) where
-          pub before-run : Runs nexts″ head m
-          before-run = runs-from-leads (way nexts head m) nexts″ head moved m runs-before (
-            before-stay-again (way nexts head m) (way nexts after j) (way nexts behind k) nexts nexts′ nexts″ head moved after behind after′ pointed parts-apart leads-before leads-passed j runs-passed made
-          )
-
-          pub way-moved : (nexts‴ : List ℕ) (head′ : ℕ) → redirected nexts″ head m after′ ≡ (nexts‴, head′) → way nexts‴ head′ n ≡ movedBack (suc m) j (way nexts head n)
-          way-moved nexts‴ head′ made′ =
-              let us : List ℕ = way nexts head m in
-              let vs : List ℕ = way nexts after j in
-              let ws : List ℕ = way nexts behind k in
-              let l : Leads nexts‴ head′ (us ++ (vs ++ moved ∷ ws)) (beyond nexts behind k) =
-                leads-moved us vs ws nexts nexts′ nexts″ head moved after behind after′ pointed parts-apart leads-before leads-passed j runs-passed made (beyond nexts behind k) moved-there (leads-from-way k nexts behind runs-rest) nexts‴ head′ m runs-before made′
-              in
-              let len : length (us ++ (vs ++ moved ∷ ws)) ≡ n =
-                omega (arith, length-append us (vs ++ moved ∷ ws), length-append vs (moved ∷ ws), runs-before, runs-passed, runs-rest, sum)
-              in
-              let back : movedBack (suc m) j (us ++ moved ∷ (vs ++ ws)) ≡ us ++ (vs ++ moved ∷ ws) =
-                ap (λ i. movedBack (suc i) j (us ++ moved ∷ (vs ++ ws))) (sym runs-before) ∙ ap (λ i. movedBack (suc (length us)) i (us ++ moved ∷ (vs ++ ws))) (sym runs-passed) ∙ movedBack-at us vs ws moved
-              in
-              ap (way nexts‴ head′) (sym len) ∙ way-from-leads (us ++ (vs ++ moved ∷ ws)) nexts‴ head′ (beyond nexts behind k) l ∙ sym back ∙ ap (movedBack (suc m) j) (sym all-parts)

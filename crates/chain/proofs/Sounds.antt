@@ -35,7 +35,7 @@ picked-within cells head n h =
 length-run : {K : Type 0} (cells : List (Cell K)) (head n : ℕ) → Runs (nextsIn cells) head n → length (chained cells head n) ≡ n
 length-run cells head n h = length-picked (keysIn cells) (way (nextsIn cells) head n) (picked-within cells head n h) ∙ h
 
-module _ {K V : Type 0} (equal : V → V → Bool) (value : K → V) (cells : List (Cell K)) (head count : ℕ) (s : Sound equal value cells head count) where
+module _ {K V : Type 0} {equal : V → V → Bool} {value : K → V} {cells : List (Cell K)} {head count : ℕ} (s : Sound equal value cells head count) where
   pub runs-to : (n : ℕ) → n ≤ room cells → Runs (nextsIn cells) head n
   runs-to n l = way-front n (room cells - n) (room cells) (nextsIn cells) head (omega arith) (s .whole .runs)
 
@@ -117,7 +117,7 @@ module _ {K V : Type 0} (equal : V → V → Bool) (value : K → V) (cells : Li
           }
 
   -- a key was written into the first free cell
-  module _ (others : List (Cell K)) (key : K) (free more : ℕ) (is-more : more ≡ suc count) (room-left : count < room cells) (is-free : free ≡ beyond (nextsIn cells) head count) (keys : keysIn others ≡ set (keysIn cells) free key) (nexts : nextsIn others ≡ nextsIn cells) where
+  module _ (others : List (Cell K)) (key : K) {free more : ℕ} (is-more : more ≡ suc count) (room-left : count < room cells) (is-free : free ≡ beyond (nextsIn cells) head count) (keys : keysIn others ≡ set (keysIn cells) free key) (nexts : nextsIn others ≡ nextsIn cells) where
     pub room-appended : room others ≡ room cells
     room-appended = ap (min 256) (sym (length-nexts others) ∙ ap length nexts ∙ length-nexts cells)
 

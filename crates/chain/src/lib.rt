@@ -82,7 +82,8 @@ fn move_back<K: Key>(cells: &mut [Cell<K>], head: usize, place: usize, by: usize
     ensures way { λ r. ⌜ way (nextsIn (now (cells .exit))) r (room (now (cells .exit))) ≡ movedBack place by (way (nextsIn (now (cells .entry))) head (room (now (cells .entry)))) ⌝ }
 {
     let moved = walk(cells, head, place - 1);
-    let after = walk(cells, moved, 1);
+    let cell = cells[moved];
+    let after = cell.next;
     let behind = walk(cells, after, by);
     point(cells, moved, behind);
     let after = redirect(cells, after, by, moved);
@@ -180,8 +181,8 @@ pub impl<'a, K: Key> Line<K> for Chain<'a, K> as ChainLine {
         if place < 1 || count < place {
             return Err(Denial::OutOfRange);
         }
-        let at = walk(cells, head, place - 1);
-        let cell = cells[at];
+        let here = walk(cells, head, place - 1);
+        let cell = cells[here];
         Ok(cell.key)
     }
 

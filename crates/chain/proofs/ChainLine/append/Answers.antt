@@ -16,7 +16,7 @@ use Rattle.chain.proofs.ChainLine.append.Needs as need
 pub returns-then-count-limit : need.returns-then-count-limit
 returns-then-count-limit g c =
     let line = c .args .self .now in
-    let n : length (chained (line .cells .now) (line .head) (line .count)) ≡ line .count = length-chained (g .K·Key .equal) (g .K·Key .value) (line .cells .now) (line .head) (line .count) (c .pre) in
+    let n : length (chained (line .cells .now) (line .head) (line .count)) ≡ line .count = length-chained (c .pre) in
     let new : stands (g .K·Key .equal) (g .K·Key .value (c .args .key)) (map (g .K·Key .value) (chained (line .cells .now) (line .head) (line .count))) ≡ false = missing (g .K·Key .equal) (g .K·Key .value (c .args .key)) (map (g .K·Key .value) (chained (line .cells .now) (line .head) (line .count))) (c .place-of .result) (c .place-of .ensures) (sym (c .is-some .ensures) ∙ c .if-is-some .left) in
     record {
       sound = c .pre;
@@ -29,21 +29,20 @@ put-last-requires g c κs =
     let line = c .args .self .now in
     let l : line .count ≤ room (line .cells .now) = c .pre .within in
     let e : c .limit-limit .result ≡ room (line .cells .now) = c .limit-limit .ensures in
-    runs-to (g .K·Key .equal) (g .K·Key .value) (line .cells .now) (line .head) (line .count) (c .pre) (line .count + 1) (omega arith)
+    runs-to (c .pre) (line .count + 1) (omega arith)
 
 pub returns : need.returns
 returns g c =
     let line = c .args .self .now in
     let others = c .put-last .last .cells in
-    let free = beyond (nextsIn (line .cells .now)) (line .head) (line .count) in
     let l : line .count < room (line .cells .now) = omega (arith, c .pre .within, c .limit-limit .ensures, c .if-count-limit .left) in
-    let n : length (chained (line .cells .now) (line .head) (line .count)) ≡ line .count = length-chained (g .K·Key .equal) (g .K·Key .value) (line .cells .now) (line .head) (line .count) (c .pre) in
+    let n : length (chained (line .cells .now) (line .head) (line .count)) ≡ line .count = length-chained (c .pre) in
     let more : line .count + 1 ≡ suc (line .count) = omega arith in
     let new : stands (g .K·Key .equal) (g .K·Key .value (c .args .key)) (map (g .K·Key .value) (chained (line .cells .now) (line .head) (line .count))) ≡ false = missing (g .K·Key .equal) (g .K·Key .value (c .args .key)) (map (g .K·Key .value) (chained (line .cells .now) (line .head) (line .count))) (c .place-of .result) (c .place-of .ensures) (sym (c .is-some .ensures) ∙ c .if-is-some .left) in
     record {
-      sound = sound-appended (g .K·Key .equal) (g .K·Key .value) (line .cells .now) (line .head) (line .count) (c .pre) others (c .args .key) free (line .count + 1) more l refl (c .put-last .ensures .keys) (c .put-last .ensures .nexts) (g .K·Key·met .decides) new;
-      limit = room-appended (g .K·Key .equal) (g .K·Key .value) (line .cells .now) (line .head) (line .count) (c .pre) others (c .args .key) free (line .count + 1) more l refl (c .put-last .ensures .keys) (c .put-last .ensures .nexts);
+      sound = sound-appended (c .pre) others (c .args .key) more l refl (c .put-last .ensures .keys) (c .put-last .ensures .nexts) (g .K·Key·met .decides) new;
+      limit = room-appended (c .pre) others (c .args .key) more l refl (c .put-last .ensures .keys) (c .put-last .ensures .nexts);
       keys = appended-new (g .K·Key .equal) (g .K·Key .value) (room (line .cells .now)) (c .args .key) (chained (line .cells .now) (line .head) (line .count)) (chained others (line .head) (line .count + 1)) new (λ e. omega arith) (
-        chained-appended (g .K·Key .equal) (g .K·Key .value) (line .cells .now) (line .head) (line .count) (c .pre) others (c .args .key) free (line .count + 1) more l refl (c .put-last .ensures .keys) (c .put-last .ensures .nexts)
+        chained-appended (c .pre) others (c .args .key) more l refl (c .put-last .ensures .keys) (c .put-last .ensures .nexts)
       );
     }

@@ -13,7 +13,7 @@ pub returns-then-place-lt1 : need.returns-then-place-lt1
 returns-then-place-lt1 g c =
     let line = c .args .self .now in
     let h = c .then-place-lt1 .either in
-    let n : length (chained (line .cells .now) (line .head) (line .count)) ≡ line .count = length-chained (g .K·Key .equal) (g .K·Key .value) (line .cells .now) (line .head) (line .count) (c .pre) in
+    let n : length (chained (line .cells .now) (line .head) (line .count)) ≡ line .count = length-chained (c .pre) in
     record {
       sound = c .pre;
       limit = refl;
@@ -25,10 +25,10 @@ pub returns : need.returns
 returns g c =
     let line = c .args .self .now in
     let others = c .move-back-self .last .cells in
-    let n : length (chained (line .cells .now) (line .head) (line .count)) ≡ line .count = length-chained (g .K·Key .equal) (g .K·Key .value) (line .cells .now) (line .head) (line .count) (c .pre) in
+    let n : length (chained (line .cells .now) (line .head) (line .count)) ≡ line .count = length-chained (c .pre) in
     record {
-      sound = sound-exchanged (g .K·Key .equal) (g .K·Key .value) (line .cells .now) (line .head) (line .count) (c .pre) others (c .move-back-self .result) (c .args .place) 1 (c .move-back-self .ensures .keys) (c .move-back-self .ensures .way) refl (omega arith);
+      sound = sound-exchanged (c .pre) others (c .move-back-self .result) (c .args .place) 1 (c .move-back-self .ensures .keys) (c .move-back-self .ensures .way) refl (omega arith);
       limit = same-room (line .cells .now) others (c .move-back-self .ensures .keys);
       gives = grind (arith, tells);
-      keys = chained-exchanged (g .K·Key .equal) (g .K·Key .value) (line .cells .now) (line .head) (line .count) (c .pre) others (c .move-back-self .result) (c .args .place) 1 (c .move-back-self .ensures .keys) (c .move-back-self .ensures .way) refl (omega arith);
+      keys = chained-exchanged (c .pre) others (c .move-back-self .result) (c .args .place) 1 (c .move-back-self .ensures .keys) (c .move-back-self .ensures .way) refl (omega arith);
     }

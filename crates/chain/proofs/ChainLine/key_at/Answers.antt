@@ -13,26 +13,26 @@ pub returns-then-place-lt1 : need.returns-then-place-lt1
 returns-then-place-lt1 g c =
     let line = c .args .self .now in
     let h = c .then-place-lt1 .either in
-    let n : length (chained (line .cells .now) (line .head) (line .count)) ≡ line .count = length-chained (g .K·Key .equal) (g .K·Key .value) (line .cells .now) (line .head) (line .count) (c .pre) in
+    let n : length (chained (line .cells .now) (line .head) (line .count)) ≡ line .count = length-chained (c .pre) in
     sym (keyAt-outside (c .args .place) (chained (line .cells .now) (line .head) (line .count)) (λ a b. omega arith))
 
-pub walk-at-requires : need.walk-at-requires
-walk-at-requires g c κs =
+pub walk-here-requires : need.walk-here-requires
+walk-here-requires g c κs =
     let line = c .args .self .now in
     let l : line .count ≤ room (line .cells .now) = c .pre .within in
-    runs-to (g .K·Key .equal) (g .K·Key .value) (line .cells .now) (line .head) (line .count) (c .pre) (c .args .place - 1) (omega arith)
+    runs-to (c .pre) (c .args .place - 1) (omega arith)
 
-inside : need.index-cells-at
+inside : need.index-cells-here
 inside g c =
     let line = c .args .self .now in
-    let runs = runs-to (g .K·Key .equal) (g .K·Key .value) (line .cells .now) (line .head) (line .count) (c .pre) (line .count) (c .pre .within) in
-    beyond-there (line .cells .now) (c .args .place - 1) (line .count) (line .head) (c .walk-at .result) (omega arith) runs (c .walk-at .ensures)
+    let runs = runs-to (c .pre) (line .count) (c .pre .within) in
+    beyond-there (line .cells .now) (c .args .place - 1) (line .count) (line .head) (c .walk-here .result) (omega arith) runs (c .walk-here .ensures)
 
-pub offset-cells-at : need.offset-cells-at
-offset-cells-at g c = let l : c .walk-at .result < length (c .args .self .now .cells .now) = inside g c in omega arith
+pub offset-cells-here : need.offset-cells-here
+offset-cells-here g c = let l : c .walk-here .result < length (c .args .self .now .cells .now) = inside g c in omega arith
 
-pub index-cells-at : need.index-cells-at
-index-cells-at = inside
+pub index-cells-here : need.index-cells-here
+index-cells-here = inside
 
 pub returns : need.returns
 returns g c =
@@ -40,5 +40,5 @@ returns g c =
     let some : c .args .place ≡ suc (c .args .place - 1) = omega arith in
     sym (
       ap (λ p. keyAt p (chained (line .cells .now) (line .head) (line .count))) some
-      ∙ keyAt-chained (g .K·Key .equal) (g .K·Key .value) (line .cells .now) (line .head) (line .count) (c .pre) (c .args .place - 1) (c .walk-at .result) (c .index-cells-at .result) (omega arith) (c .walk-at .ensures) (c .index-cells-at .is)
+      ∙ keyAt-chained (c .pre) (c .args .place - 1) (c .walk-here .result) (c .index-cells-here .result) (omega arith) (c .walk-here .ensures) (c .index-cells-here .is)
     )

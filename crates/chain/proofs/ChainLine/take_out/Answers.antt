@@ -16,7 +16,7 @@ pub returns-then-place-lt1 : need.returns-then-place-lt1
 returns-then-place-lt1 g c =
     let line = c .args .self .now in
     let h = c .then-place-lt1 .either in
-    let n : length (chained (line .cells .now) (line .head) (line .count)) ≡ line .count = length-chained (g .K·Key .equal) (g .K·Key .value) (line .cells .now) (line .head) (line .count) (c .pre) in
+    let n : length (chained (line .cells .now) (line .head) (line .count)) ≡ line .count = length-chained (c .pre) in
     record {
       sound = c .pre;
       limit = refl;
@@ -41,10 +41,10 @@ returns g c =
       ]
     in
     let others = c .if-place-count .self .cells .now in
-    let n : length (chained (line .cells .now) (line .head) (line .count)) ≡ line .count = length-chained (g .K·Key .equal) (g .K·Key .value) (line .cells .now) (line .head) (line .count) (c .pre) in
+    let n : length (chained (line .cells .now) (line .head) (line .count)) ≡ line .count = length-chained (c .pre) in
     record {
-      sound = sound-taken (g .K·Key .equal) (g .K·Key .value) (line .cells .now) (line .head) (line .count) (c .pre) others (c .if-place-count .self .head) (c .args .place) by (ways .0) (ways .1) (line .count - 1) (omega arith) (omega arith) (omega arith);
+      sound = sound-taken (c .pre) others (c .if-place-count .self .head) (c .args .place) by (ways .0) (ways .1) (line .count - 1) (omega arith) (omega arith) (omega arith);
       limit = same-room (line .cells .now) others (ways .0);
       gives = grind (arith, tells);
-      keys = chained-taken (g .K·Key .equal) (g .K·Key .value) (line .cells .now) (line .head) (line .count) (c .pre) others (c .if-place-count .self .head) (c .args .place) by (ways .0) (ways .1) (line .count - 1) (omega arith) (omega arith) (omega arith);
+      keys = chained-taken (c .pre) others (c .if-place-count .self .head) (c .args .place) by (ways .0) (ways .1) (line .count - 1) (omega arith) (omega arith) (omega arith);
     }
