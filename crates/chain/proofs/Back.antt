@@ -75,15 +75,15 @@ module _ {K : Type 0} {cells : List (Cell K)} {head : ℕ} (place j : ℕ) (whol
         module _ {nexts′ : List ℕ} (pointed : nexts′ ≡ set nexts moved behind) where
           pub passed-run : Runs nexts′ after j
           passed-run = runs-from-leads (way nexts after j) nexts′ after behind j runs-passed (
-            passed-stay (way nexts head m) (way nexts after j) (way nexts behind k) nexts nexts′ nexts head moved after behind after pointed apart leads-before leads-passed
-          )
+              passed-stay (way nexts head m) (way nexts after j) (way nexts behind k) nexts nexts′ nexts head moved after behind after pointed apart leads-before leads-passed
+              )
 
           -- they lead to it
           module _ {nexts″ : List ℕ} {after′ : ℕ} (made : redirected nexts′ after j moved ≡ (nexts″, after′)) where
             pub before-run : Runs nexts″ head m
             before-run = runs-from-leads (way nexts head m) nexts″ head moved m runs-before (
-              before-stay-again (way nexts head m) (way nexts after j) (way nexts behind k) nexts nexts′ nexts″ head moved after behind after′ pointed apart leads-before leads-passed j runs-passed made
-            )
+                before-stay-again (way nexts head m) (way nexts after j) (way nexts behind k) nexts nexts′ nexts″ head moved after behind after′ pointed apart leads-before leads-passed j runs-passed made
+                )
 
             -- and the cells before it lead to them
             pub way-moved : (others : List (Cell K)) (head′ : ℕ) → keysIn others ≡ keysIn cells → redirected nexts″ head m after′ ≡ (nextsIn others, head′) → way (nextsIn others) head′ (room others) ≡ movedBack place j (way nexts head (room cells))
@@ -92,13 +92,13 @@ module _ {K : Type 0} {cells : List (Cell K)} {head : ℕ} (place j : ℕ) (whol
                 let vs : List ℕ = way nexts after j in
                 let ws : List ℕ = way nexts behind k in
                 let l : Leads (nextsIn others) head′ (us ++ (vs ++ moved ∷ ws)) (beyond nexts behind k) =
-                  leads-moved us vs ws nexts nexts′ nexts″ head moved after behind after′ pointed apart leads-before leads-passed j runs-passed made (beyond nexts behind k) nexts-there (leads-from-way k nexts behind runs-rest) (nextsIn others) head′ m runs-before made′
+                leads-moved us vs ws nexts nexts′ nexts″ head moved after behind after′ pointed apart leads-before leads-passed j runs-passed made (beyond nexts behind k) nexts-there (leads-from-way k nexts behind runs-rest) (nextsIn others) head′ m runs-before made′
                 in
                 let len : length (us ++ (vs ++ moved ∷ ws)) ≡ room cells =
-                  omega (arith, length-append us (vs ++ moved ∷ ws), length-append vs (moved ∷ ws), runs-before, runs-passed, runs-rest, sum)
+                omega (arith, length-append us (vs ++ moved ∷ ws), length-append vs (moved ∷ ws), runs-before, runs-passed, runs-rest, sum)
                 in
                 let at : place ≡ suc (length us) = omega (arith, runs-before) in
                 let back : movedBack place j (us ++ moved ∷ (vs ++ ws)) ≡ us ++ (vs ++ moved ∷ ws) =
-                  ap (λ i. movedBack i j (us ++ moved ∷ (vs ++ ws))) at ∙ ap (λ i. movedBack (suc (length us)) i (us ++ moved ∷ (vs ++ ws))) (sym runs-passed) ∙ movedBack-at us vs ws moved
+                ap (λ i. movedBack i j (us ++ moved ∷ (vs ++ ws))) at ∙ ap (λ i. movedBack (suc (length us)) i (us ++ moved ∷ (vs ++ ws))) (sym runs-passed) ∙ movedBack-at us vs ws moved
                 in
                 ap (way (nextsIn others) head′) (same-room cells others keys ∙ sym len) ∙ way-from-leads (us ++ (vs ++ moved ∷ ws)) (nextsIn others) head′ (beyond nexts behind k) l ∙ sym back ∙ ap (movedBack place j) (sym all-parts)

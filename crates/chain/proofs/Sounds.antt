@@ -51,11 +51,11 @@ module _ {K V : Type 0} {equal : V → V → Bool} {value : K → V} {cells : Li
       let n : here < length nexts = omega (arith, length-nexts cells) in
       let rest : List ℕ = way nexts (getD nexts here 0) (count - suc m) in
       let parts : way nexts head count ≡ way nexts head m ++ here ∷ rest =
-        way-parts m (suc (count - suc m)) count nexts head (omega arith) (runs-to count w) ∙ ap (λ i. way nexts head m ++ way nexts i (suc (count - suc m))) (sym e)
-        ∙ ap (λ ws. way nexts head m ++ ws) (way-step nexts here (count - suc m) n)
+      way-parts m (suc (count - suc m)) count nexts head (omega arith) (runs-to count w) ∙ ap (λ i. way nexts head m ++ way nexts i (suc (count - suc m))) (sym e)
+      ∙ ap (λ ws. way nexts head m ++ ws) (way-step nexts here (count - suc m) n)
       in
       let all : chained cells head count ≡ chained cells head m ++ cell .key ∷ picked keys rest =
-        ap (picked keys) parts ∙ picked-append keys (way nexts head m) (here ∷ rest) ∙ ap (λ ks. chained cells head m ++ (ks ++ picked keys rest)) (read-key cells here cell read there)
+      ap (picked keys) parts ∙ picked-append keys (way nexts head m) (here ∷ rest) ∙ ap (λ ks. chained cells head m ++ (ks ++ picked keys rest)) (read-key cells here cell read there)
       in
       let before : suc m ≡ suc (length (chained cells head m)) = ap suc (sym (length-run cells head m (runs-to m (omega arith)))) in
       rw all (ap (λ i. keyAt i (chained cells head m ++ cell .key ∷ picked keys rest)) before ∙ keyAt-at (chained cells head m) (picked keys rest) (cell .key))
@@ -76,8 +76,8 @@ module _ {K V : Type 0} {equal : V → V → Bool} {value : K → V} {cells : Li
           let ws : List ℕ = way (nextsIn cells) head (room cells) in
           let run : length ws ≡ room cells = s .whole .runs in
           let front : way (nextsIn others) head′ m ≡ takenOut p (way (nextsIn cells) head count) =
-            way-take m (room others) (nextsIn others) head′ (omega arith) ∙ ap (take m) ways ∙ take-movedBack p by m ws inside last (omega arith)
-            ∙ ap (λ n. takenOut p (take n ws)) less ∙ ap (takenOut p) (sym (way-take count (room cells) (nextsIn cells) head w))
+          way-take m (room others) (nextsIn others) head′ (omega arith) ∙ ap (take m) ways ∙ take-movedBack p by m ws inside last (omega arith)
+          ∙ ap (λ n. takenOut p (take n ws)) less ∙ ap (takenOut p) (sym (way-take count (room cells) (nextsIn cells) head w))
           in
           ap (λ ks. picked ks (way (nextsIn others) head′ m)) keys ∙ ap (picked (keysIn cells)) front
           ∙ picked-takenOut p (keysIn cells) (way (nextsIn cells) head count) (picked-within cells head count (runs-to count w))
@@ -100,8 +100,8 @@ module _ {K V : Type 0} {equal : V → V → Bool} {value : K → V} {cells : Li
           let r : room others ≡ room cells = same-room cells others keys in
           let ws : List ℕ = way (nextsIn cells) head (room cells) in
           let front : way (nextsIn others) head′ count ≡ exchanged p (way (nextsIn cells) head count) =
-            way-take count (room others) (nextsIn others) head′ (omega arith) ∙ ap (take count) ways ∙ ap (λ n. take count (movedBack p n ws)) one ∙ ap (take count) (movedBack-one p ws)
-            ∙ take-exchanged p count ws inside ∙ ap (exchanged p) (sym (way-take count (room cells) (nextsIn cells) head w))
+          way-take count (room others) (nextsIn others) head′ (omega arith) ∙ ap (take count) ways ∙ ap (λ n. take count (movedBack p n ws)) one ∙ ap (take count) (movedBack-one p ws)
+          ∙ take-exchanged p count ws inside ∙ ap (exchanged p) (sym (way-take count (room cells) (nextsIn cells) head w))
           in
           ap (λ ks. picked ks (way (nextsIn others) head′ count)) keys ∙ ap (picked (keysIn cells)) front
           ∙ picked-exchanged p (keysIn cells) (way (nextsIn cells) head count) (picked-within cells head count (runs-to count w))
@@ -130,12 +130,12 @@ module _ {K V : Type 0} {equal : V → V → Bool} {value : K → V} {cells : Li
         let past : ℕ = room cells - suc count in
         let rest : List ℕ = way (nextsIn cells) (getD (nextsIn cells) free 0) past in
         let all : way (nextsIn cells) head (room cells) ≡ ws ++ free ∷ rest =
-          way-parts count (suc past) (room cells) (nextsIn cells) head (omega arith) (s .whole .runs) ∙ ap (λ i. ws ++ way (nextsIn cells) i (suc past)) (sym is-free)
-          ∙ ap (λ vs. ws ++ vs) (way-step (nextsIn cells) free past n)
+        way-parts count (suc past) (room cells) (nextsIn cells) head (omega arith) (s .whole .runs) ∙ ap (λ i. ws ++ way (nextsIn cells) i (suc past)) (sym is-free)
+        ∙ ap (λ vs. ws ++ vs) (way-step (nextsIn cells) free past n)
         in
         let front : way (nextsIn cells) head (suc count) ≡ ws ++ free ∷ [] =
-          way-parts count 1 (suc count) (nextsIn cells) head (omega arith) (runs-to (suc count) room-left) ∙ ap (λ i. ws ++ way (nextsIn cells) i 1) (sym is-free)
-          ∙ ap (λ vs. ws ++ vs) (way-step (nextsIn cells) free 0 n)
+        way-parts count 1 (suc count) (nextsIn cells) head (omega arith) (runs-to (suc count) room-left) ∙ ap (λ i. ws ++ way (nextsIn cells) i 1) (sym is-free)
+        ∙ ap (λ vs. ws ++ vs) (way-step (nextsIn cells) free 0 n)
         in
         let absent : occurrences eqb free ws ≡ 0 = apart-front ws rest free (subst (Different eqb) all (s .whole .apart)) in
         ap (λ ns. picked (keysIn others) (way ns head more)) nexts ∙ ap (λ ks. picked ks (way (nextsIn cells) head more)) keys

@@ -43,6 +43,6 @@ returns g c =
       sound = sound-appended (c .pre) others (c .args .key) more l refl (c .put-last .ensures .keys) (c .put-last .ensures .nexts) (g .K·Key·met .decides) new;
       limit = room-appended (c .pre) others (c .args .key) more l refl (c .put-last .ensures .keys) (c .put-last .ensures .nexts);
       keys = appended-new (g .K·Key .equal) (g .K·Key .value) (room (line .cells .now)) (c .args .key) (chained (line .cells .now) (line .head) (line .count)) (chained others (line .head) (line .count + 1)) new (λ e. omega arith) (
-        chained-appended (c .pre) others (c .args .key) more l refl (c .put-last .ensures .keys) (c .put-last .ensures .nexts)
-      );
+          chained-appended (c .pre) others (c .args .key) more l refl (c .put-last .ensures .keys) (c .put-last .ensures .nexts)
+          );
     }

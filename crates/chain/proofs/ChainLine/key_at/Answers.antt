@@ -39,6 +39,6 @@ returns g c =
     let line = c .args .self .now in
     let some : c .args .place ≡ suc (c .args .place - 1) = omega arith in
     sym (
-      ap (λ p. keyAt p (chained (line .cells .now) (line .head) (line .count))) some
-      ∙ keyAt-chained (c .pre) (c .args .place - 1) (c .walk-here .result) (c .index-cells-here .result) (omega arith) (c .walk-here .ensures) (c .index-cells-here .is)
+    ap (λ p. keyAt p (chained (line .cells .now) (line .head) (line .count))) some
+    ∙ keyAt-chained (c .pre) (c .args .place - 1) (c .walk-here .result) (c .index-cells-here .result) (omega arith) (c .walk-here .ensures) (c .index-cells-here .is)
     )

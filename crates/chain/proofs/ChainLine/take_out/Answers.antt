@@ -29,16 +29,16 @@ returns g c =
     let line = c .args .self .now in
     let by = line .count - c .args .place in
     let P : Chain (g .K .Denot) → Type 0 = λ s.
-      (keysIn (s .cells .now) ≡ keysIn (line .cells .now))
-      × (way (nextsIn (s .cells .now)) (s .head) (room (s .cells .now)) ≡ movedBack (c .args .place) by (way (nextsIn (line .cells .now)) (line .head) (room (line .cells .now))))
+    (keysIn (s .cells .now) ≡ keysIn (line .cells .now))
+    × (way (nextsIn (s .cells .now)) (s .head) (room (s .cells .now)) ≡ movedBack (c .args .place) by (way (nextsIn (line .cells .now)) (line .head) (room (line .cells .now))))
     in
     let ways : P (c .if-place-count .self) =
-      elim (c .if-place-count .came) [
-        | then-place-count w ↦ subst P (sym (w .self-is)) (w .move-back-self .ensures .keys, w .move-back-self .ensures .way)
-        | else-place-count w ↦
-            let none : 0 ≡ by = omega arith in
-            subst P (sym (w .self-is)) (refl, sym (movedBack-none (c .args .place) (way (nextsIn (line .cells .now)) (line .head) (room (line .cells .now)))) ∙ ap (λ b. movedBack (c .args .place) b (way (nextsIn (line .cells .now)) (line .head) (room (line .cells .now)))) none)
-      ]
+    elim (c .if-place-count .came) [
+      | then-place-count w ↦ subst P (sym (w .self-is)) (w .move-back-self .ensures .keys, w .move-back-self .ensures .way)
+      | else-place-count w ↦
+          let none : 0 ≡ by = omega arith in
+          subst P (sym (w .self-is)) (refl, sym (movedBack-none (c .args .place) (way (nextsIn (line .cells .now)) (line .head) (room (line .cells .now)))) ∙ ap (λ b. movedBack (c .args .place) b (way (nextsIn (line .cells .now)) (line .head) (room (line .cells .now)))) none)
+    ]
     in
     let others = c .if-place-count .self .cells .now in
     let n : length (chained (line .cells .now) (line .head) (line .count)) ≡ line .count = length-chained (c .pre) in

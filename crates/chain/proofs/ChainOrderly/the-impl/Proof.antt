@@ -11,8 +11,8 @@ pub bound : Statement.statement
 bound γ κ K laws copies lives key dict M 𝓤 H 𝓜 𝓖 𝓡 met = record {
   different = λ s h. h .differ;
   within = λ s h.
-    let n : length (chained (s .cells .now) (s .head) (s .count)) ≡ s .count = length-chained h in
-    let l : s .count ≤ room (s .cells .now) = h .within in
-    omega arith;
+      let n : length (chained (s .cells .now) (s .head) (s .count)) ≡ s .count = length-chained h in
+      let l : s .count ≤ room (s .cells .now) = h .within in
+      omega arith;
   bounded = λ s h. omega arith;
 }
