@@ -25,7 +25,7 @@ fn walk<K: Key>(cells: &[Cell<K>], from: usize, steps: usize) -> usize
     ensures { λ r. ⌜ r ≡ beyond (nextsIn (now (cells .entry))) from steps ⌝ }
 {
     let mut here = from;
-    for step in 0..steps {
+    for _step in 0..steps {
         let cell = cells[here];
         here = cell.next;
     }
@@ -136,6 +136,7 @@ fn used<K: Key>(cells: &[Cell<K>]) -> usize
 }
 
 // A line of linked cells. One way runs from `head` through all cells that the chain uses: the keys' cells first, and then the free ones.
+#[derive(Drop)]
 pub struct Chain<'a, K> {
     cells: &'a mut [Cell<K>],
     head: usize,

@@ -8,5 +8,5 @@ use Rattle.chain.proofs.walk.Given as given
 -- what is left of the walk leads to the same cell
 abbrev pub Inv-loop-step : given.InvT-loop-step
 Inv-loop-step g l =
-    Runs (nextsIn (l .cells)) (l .here) (l .steps - l .step)
-    × (beyond (nextsIn (l .cells)) (l .here) (l .steps - l .step) ≡ beyond (nextsIn (l .cells)) (l .from) (l .steps))
+    Runs (nextsIn (l .cells)) (l .here) (l .steps - l .-step)
+    × (beyond (nextsIn (l .cells)) (l .here) (l .steps - l .-step) ≡ beyond (nextsIn (l .cells)) (l .from) (l .steps))
