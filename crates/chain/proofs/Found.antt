@@ -58,10 +58,10 @@ module _ {K V : Type 0} (equal : V → V → Bool) (value : K → V) (v : V) (al
   pub passed-here : equal v (value (cell .key)) ≡ false → Runs (nextsIn cells) (cell .next) n × Passed equal v all (map value (chained cells (cell .next) n)) (k + 1)
   passed-here e = (walk-on cells here r n (beyond (nextsIn cells) here r) cell some read (left .0, refl) .0, passed-more equal v all (value (cell .key)) (map value (chained cells (cell .next) n)) k e begins)
 
--- a search that found nothing
-pub missing : {V : Type 0} (equal : V → V → Bool) (v : V) (xs : List V) (o : Option ℕ) → o ≡ placeOf equal v xs → isSome o ≡ false → stands equal v xs ≡ false
-missing equal v xs o e h = at (stands equal v xs) refl
+-- a key that has no place
+pub missing : {V : Type 0} (equal : V → V → Bool) (v : V) (xs : List V) → placeOf equal v xs ≡ None → stands equal v xs ≡ false
+missing equal v xs e = at (stands equal v xs) refl
   where
     at : (b : Bool) → stands equal v xs ≡ b → b ≡ false
-    at true t = let some : o ≡ Some (walk equal v xs) = e ∙ ap (λ b. cond b (Some (walk equal v xs)) None) t in sym (ap isSome some) ∙ h
+    at true t = let some : Some (walk equal v xs) ≡ None = sym (ap (λ b. cond b (Some (walk equal v xs)) None) t) ∙ e in ap isSome some
     at false t = refl

@@ -1,18 +1,16 @@
 -- What calls do to a list of entries: at a seam, to a front, to how often an entry occurs, and outside their range.
 use mathlib.Core.Path.{_≡_, refl, sym, ap, _∙_}
-use mathlib.Core.Bool.{Bool, false}
-use mathlib.Core.List.{List, [], _∷_, _++_, map}
+use mathlib.Core.List.{List, [], _∷_, _++_}
 use Prim.Native.Nat.{ℕ, zero, suc, _+_, _≤_, _<_}
 use native.Mathlib.Omega.{arith}
 use lib.Dec.{eqb}
 use lib.ListN.{length, take, drop}
 use Rattle.std.proofs.shelf.Lists.{take-append-drop, length-take-le, length-append, take-at, drop-at}
-use Rattle.std.proofs.shelf.Tests.{ne-eqb}
 use Rattle.std.specs.declared.result.Result.the-variants.{Ok, Err}
 use Rattle.keys.specs.declared.denial.Denial.{Denial}
 use Rattle.keys.specs.declared.denial.Denial.the-variants.{OutOfRange}
 use Rattle.lines.specs.Orders.{keyAt, takenOut, exchanged}
-use Rattle.lines.specs.Places.{occurrences, stands, appended}
+use Rattle.lines.specs.Places.{occurrences}
 use Rattle.lines.proofs.Kept.{occurrences-append}
 use Rattle.chain.specs.Ways.{movedBack}
 
@@ -90,7 +88,3 @@ module _ {X : Type 0} where
   keyAt-outside (suc p) [] h = refl
   keyAt-outside (suc zero) (x ∷ xs) h = absurd (h (omega arith) (omega arith))
   keyAt-outside (suc (suc p)) (x ∷ xs) h = keyAt-outside (suc p) xs (λ a b. h (omega arith) (omega arith))
-
--- a new key below the limit
-pub appended-new : {K V : Type 0} (equal : V → V → Bool) (value : K → V) (limit : ℕ) (k : K) (xs ys : List K) → stands equal (value k) (map value xs) ≡ false → (length xs ≡ limit → ⊥) → ys ≡ xs ++ k ∷ [] → appended equal value limit k xs ≡ (Ok tt, ys)
-appended-new equal value limit k xs ys h n e = rw (h, ne-eqb (length xs) limit n, e)

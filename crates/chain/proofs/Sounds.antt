@@ -35,12 +35,18 @@ picked-within cells head n h =
 length-run : {K : Type 0} (cells : List (Cell K)) (head n : ℕ) → Runs (nextsIn cells) head n → length (chained cells head n) ≡ n
 length-run cells head n h = length-picked (keysIn cells) (way (nextsIn cells) head n) (picked-within cells head n h) ∙ h
 
+-- a whole way whose first keys differ
+sound-from : {K V : Type 0} (equal : V → V → Bool) (value : K → V) (cells : List (Cell K)) (head n : ℕ) → Whole cells head → n ≤ room cells → Different equal (map value (chained cells head n)) → Sound equal value cells head n
+sound-from equal value cells head n w l d = record {
+  whole = w;
+  within = l;
+  counted = length-run cells head n (way-front n (room cells - n) (room cells) (nextsIn cells) head (omega arith) (w .runs));
+  differ = d;
+}
+
 module _ {K V : Type 0} {equal : V → V → Bool} {value : K → V} {cells : List (Cell K)} {head count : ℕ} (s : Sound equal value cells head count) where
   pub runs-to : (n : ℕ) → n ≤ room cells → Runs (nextsIn cells) head n
   runs-to n l = way-front n (room cells - n) (room cells) (nextsIn cells) head (omega arith) (s .whole .runs)
-
-  pub length-chained : length (chained cells head count) ≡ count
-  length-chained = length-run cells head count (runs-to count (s .within))
 
   pub keyAt-chained : (m here : ℕ) (cell : Cell K) → m < count → here ≡ beyond (nextsIn cells) head m → cell ≡ getD cells here cell → keyAt (suc m) (chained cells head count) ≡ Ok (cell .key)
   keyAt-chained m here cell l e read =
@@ -86,11 +92,7 @@ module _ {K V : Type 0} {equal : V → V → Bool} {value : K → V} {cells : Li
       sound-taken =
           let w : count ≤ room cells = s .within in
           let r : room others ≡ room cells = same-room cells others keys in
-          record {
-            whole = whole-moved;
-            within = omega arith;
-            differ = rw chained-taken (different-takenOut equal value p (chained cells head count) (s .differ));
-          }
+          sound-from equal value others head′ m whole-moved (omega arith) (rw chained-taken (different-takenOut equal value p (chained cells head count) (s .differ)))
 
     -- and was exchanged with the next
     module _ (one : by ≡ 1) (inside : p < count) where
@@ -110,11 +112,7 @@ module _ {K V : Type 0} {equal : V → V → Bool} {value : K → V} {cells : Li
       sound-exchanged =
           let w : count ≤ room cells = s .within in
           let r : room others ≡ room cells = same-room cells others keys in
-          record {
-            whole = whole-moved;
-            within = omega arith;
-            differ = rw chained-exchanged (different-exchanged equal value p (chained cells head count) (s .differ));
-          }
+          sound-from equal value others head′ count whole-moved (omega arith) (rw chained-exchanged (different-exchanged equal value p (chained cells head count) (s .differ)))
 
   -- a key was written into the first free cell
   module _ (others : List (Cell K)) (key : K) {free more : ℕ} (is-more : more ≡ suc count) (room-left : count < room cells) (is-free : free ≡ beyond (nextsIn cells) head count) (keys : keysIn others ≡ set (keysIn cells) free key) (nexts : nextsIn others ≡ nextsIn cells) where
@@ -147,8 +145,6 @@ module _ {K V : Type 0} {equal : V → V → Bool} {value : K → V} {cells : Li
     pub sound-appended : ((v w : V) → Decides (equal v w) (v ≡ w)) → stands equal (value key) (map value (chained cells head count)) ≡ false → Sound equal value others head more
     sound-appended decides h =
         let e : way (nextsIn others) head (room others) ≡ way (nextsIn cells) head (room cells) = ap (λ ns. way ns head (room others)) nexts ∙ ap (way (nextsIn cells) head) room-appended in
-        record {
-          whole = whole-from cells others head head room-appended (ap length e) (λ v. ap (occurrences eqb v) e) (s .whole);
-          within = omega (arith, room-appended);
-          differ = rw chained-appended (different-appended equal value decides (chained cells head count) key (s .differ) h);
-        }
+        sound-from equal value others head more (whole-from cells others head head room-appended (ap length e) (λ v. ap (occurrences eqb v) e) (s .whole)) (omega (arith, room-appended)) (
+        rw chained-appended (different-appended equal value decides (chained cells head count) key (s .differ) h)
+        )

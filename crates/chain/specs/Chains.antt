@@ -28,8 +28,9 @@ pub record Whole {K : Type 0} (cells : List (Cell K)) (head : ℕ) : Type 0 wher
   pub runs : length (way (nextsIn cells) head (room cells)) ≡ room cells
   pub apart : Different eqb (way (nextsIn cells) head (room cells))
 
--- the way is whole, and the keys in its first cells, which are as many as `count`, differ
+-- the way is whole, `count` keys stand in its first cells, and they differ
 pub record Sound {K V : Type 0} (equal : V → V → Bool) (value : K → V) (cells : List (Cell K)) (head count : ℕ) : Type 0 where
   pub whole : Whole cells head
   pub within : count ≤ room cells
+  pub counted : length (chained cells head count) ≡ count
   pub differ : Different equal (map value (chained cells head count))

@@ -1,9 +1,12 @@
 // Chains: lines of linked cells.
 ghost use mathlib.Core.Path.{_≡_};
-ghost use mathlib.Core.List.{List, [], map};
-ghost use Prim.Native.Nat.{ℕ, _+_, _<_, _≤_};
+ghost use mathlib.Core.List.{List, [], _∷_, _++_, map};
+ghost use Prim.Native.Nat.{ℕ, _+_, _-_, _<_, _≤_};
 ghost use denote.Ref.{now};
 ghost use lib.ListN.{length, getD, set};
+ghost use Rattle.std.specs.declared.option.Option.the-variants.{None};
+ghost use Rattle.std.specs.declared.result.Result.the-variants.{Ok};
+ghost use Rattle.lines.specs.Orders.{keyAt, takenOut, exchanged};
 ghost use Rattle.lines.specs.Places.{placeOf};
 ghost use Rattle.chain.specs.Ways.{way, beyond, redirected, movedBack};
 ghost use Rattle.chain.specs.Chains.{keysIn, nextsIn, room, chained, Whole, Sound};
@@ -90,19 +93,20 @@ fn move_back<K: Key>(cells: &mut [Cell<K>], head: usize, place: usize, by: usize
     redirect(cells, head, place - 1, after)
 }
 
-// Writes a key into the cell behind the way's first `count` cells.
-fn put_last<K: Key>(cells: &mut [Cell<K>], head: usize, count: usize, key: K)
-    requires { ⌜ length (way (nextsIn (now cells)) head (count + 1)) ≡ count + 1 ⌝ }
-    ensures keys { λ _. ⌜ keysIn (now (cells .exit)) ≡ set (keysIn (now (cells .entry))) (beyond (nextsIn (now (cells .entry))) head count) key ⌝ }
-    ensures nexts { λ _. ⌜ nextsIn (now (cells .exit)) ≡ nextsIn (now (cells .entry)) ⌝ }
+// The key at a place of a chain.
+fn key_in<K: Key>(cells: &[Cell<K>], head: usize, count: usize, place: usize) -> K
+    requires sound { ⌜ Sound (K·Key .equal) (K·Key .value) (now cells) head count ⌝ }
+    requires range { ⌜ (1 ≤ place) × (place ≤ count) ⌝ }
+    ensures { λ r. ⌜ Ok r ≡ keyAt place (chained (now (cells .entry)) head count) ⌝ }
 {
-    let free = walk(cells, head, count);
-    put(cells, free, key);
+    let here = walk(cells, head, place - 1);
+    let cell = cells[here];
+    cell.key
 }
 
-// The place of a key among the first `count` cells of the way.
+// The place of a key in a chain.
 fn find<K: Key>(cells: &[Cell<K>], head: usize, count: usize, key: &K) -> Option<usize>
-    requires { ⌜ length (way (nextsIn (now cells)) head count) ≡ count ⌝ }
+    requires { ⌜ Sound (K·Key .equal) (K·Key .value) (now cells) head count ⌝ }
     ensures { λ r. ⌜ r ≡ placeOf (K·Key .equal) (K·Key .value (now (key .entry))) (map (K·Key .value) (chained (now (cells .entry)) head count)) ⌝ }
 {
     let mut here = head;
@@ -114,6 +118,44 @@ fn find<K: Key>(cells: &[Cell<K>], head: usize, count: usize, key: &K) -> Option
         here = cell.next;
     }
     None
+}
+
+// Writes a key that is new to a chain into its first free cell.
+fn put_last<K: Key>(cells: &mut [Cell<K>], head: usize, count: usize, key: K)
+    requires sound { ⌜ Sound (K·Key .equal) (K·Key .value) (now cells) head count ⌝ }
+    requires room { ⌜ count < room (now cells) ⌝ }
+    requires new { ⌜ placeOf (K·Key .equal) (K·Key .value key) (map (K·Key .value) (chained (now cells) head count)) ≡ None ⌝ }
+    ensures sound { λ _. ⌜ Sound (K·Key .equal) (K·Key .value) (now (cells .exit)) head (count + 1) ⌝ }
+    ensures room { λ _. ⌜ room (now (cells .exit)) ≡ room (now (cells .entry)) ⌝ }
+    ensures keys { λ _. ⌜ chained (now (cells .exit)) head (count + 1) ≡ chained (now (cells .entry)) head count ++ key ∷ [] ⌝ }
+{
+    let free = walk(cells, head, count);
+    put(cells, free, key);
+}
+
+// Frees the cell at a place of a chain, which becomes the first free one, and gives the chain's head.
+fn unlink<K: Key>(cells: &mut [Cell<K>], head: usize, count: usize, place: usize) -> usize
+    requires sound { ⌜ Sound (K·Key .equal) (K·Key .value) (now cells) head count ⌝ }
+    requires range { ⌜ (1 ≤ place) × (place ≤ count) ⌝ }
+    ensures sound { λ r. ⌜ Sound (K·Key .equal) (K·Key .value) (now (cells .exit)) r (count - 1) ⌝ }
+    ensures room { λ _. ⌜ room (now (cells .exit)) ≡ room (now (cells .entry)) ⌝ }
+    ensures keys { λ r. ⌜ chained (now (cells .exit)) r (count - 1) ≡ takenOut place (chained (now (cells .entry)) head count) ⌝ }
+{
+    if place == count {
+        return head;
+    }
+    move_back(cells, head, place, count - place)
+}
+
+// Links the cells at a place of a chain and at the next one the other way round, and gives the chain's head.
+fn turn<K: Key>(cells: &mut [Cell<K>], head: usize, count: usize, place: usize) -> usize
+    requires sound { ⌜ Sound (K·Key .equal) (K·Key .value) (now cells) head count ⌝ }
+    requires range { ⌜ (1 ≤ place) × (place < count) ⌝ }
+    ensures sound { λ r. ⌜ Sound (K·Key .equal) (K·Key .value) (now (cells .exit)) r count ⌝ }
+    ensures room { λ _. ⌜ room (now (cells .exit)) ≡ room (now (cells .entry)) ⌝ }
+    ensures keys { λ r. ⌜ chained (now (cells .exit)) r count ≡ exchanged place (chained (now (cells .entry)) head count) ⌝ }
+{
+    move_back(cells, head, place, 1)
 }
 
 // Lets each of the first `count` cells point to the one that follows it.
@@ -168,7 +210,7 @@ pub impl<'a, K: Key> Line<K> for Chain<'a, K> as ChainLine {
     ghost limit = { λ s. room (now (s .cells)) };
 
     fn count(&self) -> usize {
-        self.count
+        self.count // free cells do not count
     }
 
     fn limit(&self) -> usize {
@@ -182,9 +224,7 @@ pub impl<'a, K: Key> Line<K> for Chain<'a, K> as ChainLine {
         if place < 1 || count < place {
             return Err(Denial::OutOfRange);
         }
-        let here = walk(cells, head, place - 1);
-        let cell = cells[here];
-        Ok(cell.key)
+        Ok(key_in(cells, head, count, place))
     }
 
     fn place_of(&self, key: &K) -> Option<usize> {
@@ -215,9 +255,7 @@ pub impl<'a, K: Key> Line<K> for Chain<'a, K> as ChainLine {
         if place < 1 || count < place {
             return Err(Denial::OutOfRange);
         }
-        if place < count {
-            self.head = move_back(self.cells, head, place, count - place);
-        }
+        self.head = unlink(self.cells, head, count, place);
         self.count = count - 1;
         Ok(())
     }
@@ -228,7 +266,7 @@ pub impl<'a, K: Key> Line<K> for Chain<'a, K> as ChainLine {
         if place < 1 || count <= place {
             return Err(Denial::OutOfRange);
         }
-        self.head = move_back(self.cells, head, place, 1);
+        self.head = turn(self.cells, head, count, place);
         Ok(())
     }
 }

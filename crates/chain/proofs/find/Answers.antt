@@ -6,12 +6,13 @@ use lib.ListN.{length}
 use Rattle.chain.specs.Chains.{chained}
 use Rattle.chain.proofs.Cells.{walk-there}
 use Rattle.chain.proofs.Found.{passed-all, found-here, passed-here}
+use Rattle.chain.proofs.Sounds.{runs-to}
 use Rattle.chain.proofs.find.Needs as need
 
 pub loop-passed-holds : need.loop-passed-holds
 loop-passed-holds g c =
     let e : c .args .count - 0 ≡ c .args .count = omega arith in
-    rw e (c .pre, (refl, omega arith))
+    rw e (runs-to (c .pre) (c .args .count) (c .pre .within), (refl, omega arith))
 
 inside : need.index-cells-here
 inside g c = walk-there (c .args .cells .now) (c .loop-passed .here) (c .args .count - c .loop-passed .passed) (c .args .count - (c .loop-passed .passed + 1)) (omega arith) (c .loop-passed .inv .0)

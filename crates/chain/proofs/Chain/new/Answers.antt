@@ -17,6 +17,7 @@ returns g c =
       sound = record {
         whole = record { runs = runs-linked (room cells) (nextsIn cells) within nexts; apart = apart-linked (room cells) (nextsIn cells) within nexts };
         within = omega arith;
+        counted = refl;
         differ = λ v. omega arith;
       };
       keys = refl;
