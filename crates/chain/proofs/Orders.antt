@@ -1,5 +1,5 @@
 -- What calls do to a list of entries: at a seam, to a front, to how often an entry occurs, and outside their range.
-use mathlib.Core.Path.{_≡_, refl, sym, ap, _∙_}
+use mathlib.Core.Path.{_≡_, refl, ap}
 use mathlib.Core.List.{List, [], _∷_, _++_}
 use Prim.Native.Nat.{ℕ, zero, suc, _+_, _≤_, _<_}
 use native.Mathlib.Omega.{arith}
@@ -7,7 +7,6 @@ use lib.Dec.{eqb}
 use lib.ListN.{length, take, drop}
 use Rattle.std.proofs.shelf.Lists.{take-append-drop, length-take-le, length-append, take-at, drop-at}
 use Rattle.std.specs.declared.result.Result.the-variants.{Ok, Err}
-use Rattle.keys.specs.declared.denial.Denial.{Denial}
 use Rattle.keys.specs.declared.denial.Denial.the-variants.{OutOfRange}
 use Rattle.lines.specs.Orders.{keyAt, takenOut, exchanged}
 use Rattle.lines.specs.Places.{occurrences}

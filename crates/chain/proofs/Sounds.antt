@@ -1,21 +1,21 @@
 -- What a sound chain's calls rely on, and what they leave.
-use mathlib.Core.Path.{_≡_, refl, sym, ap, subst, _∙_}
+use mathlib.Core.Path.{_≡_, sym, ap, subst, _∙_}
 use mathlib.Core.Bool.{Bool, false}
 use mathlib.Core.List.{List, [], _∷_, _++_, map}
-use Prim.Native.Nat.{ℕ, zero, suc, min, _+_, _-_, _≤_, _<_}
+use Prim.Native.Nat.{ℕ, suc, min, _+_, _-_, _≤_, _<_}
 use native.Mathlib.Omega.{arith}
 use lib.Dec.{eqb}
-use lib.ListN.{length, take, drop, getD, set}
+use lib.ListN.{length, take, getD, set}
 use Rattle.std.specs.Orderings.{Decides}
 use Rattle.std.specs.shelf.Lists.{All}
-use Rattle.std.specs.declared.result.Result.the-variants.{Ok, Err}
+use Rattle.std.specs.declared.result.Result.the-variants.{Ok}
 use Rattle.lines.specs.Orders.{keyAt, takenOut, exchanged}
 use Rattle.lines.specs.Places.{occurrences, stands, Different}
 use Rattle.lines.proofs.Kept.{different-takenOut, different-exchanged, different-appended}
 use Rattle.chain.specs.declared.Cell.{Cell}
 use Rattle.chain.specs.Ways.{way, beyond, picked, movedBack}
 use Rattle.chain.specs.Chains.{keysIn, nextsIn, room, chained, Whole, Sound}
-use Rattle.chain.proofs.Segments.{Runs, way-front, way-rear, way-parts, way-step, way-take, leads-from-way, leads-within}
+use Rattle.chain.proofs.Segments.{Runs, way-front, way-parts, way-step, way-take, leads-from-way, leads-within}
 use Rattle.chain.proofs.Moves.{apart-front}
 use Rattle.chain.proofs.Orders.{length-movedBack, occurrences-movedBack, take-movedBack, movedBack-one, take-exchanged, keyAt-at}
 use Rattle.chain.proofs.Picked.{picked-append, length-picked, picked-takenOut, picked-exchanged, picked-set-other, one-set}

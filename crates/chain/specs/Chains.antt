@@ -9,13 +9,14 @@ use Rattle.lines.specs.Places.{Different}
 use Rattle.chain.specs.declared.Cell.{Cell}
 use Rattle.chain.specs.Ways.{way, picked}
 
+-- what the cells hold, and where they point
 abbrev pub keysIn : {K : Type 0} → List (Cell K) → List K
 keysIn cells = map (λ c. c .key) cells
 
 abbrev pub nextsIn : {K : Type 0} → List (Cell K) → List ℕ
 nextsIn cells = map (λ c. c .next) cells
 
--- a chain uses no more than 256 cells
+-- how many cells a chain uses, which is its limit
 abbrev pub room : {K : Type 0} → List (Cell K) → ℕ
 room cells = min 256 (length cells)
 

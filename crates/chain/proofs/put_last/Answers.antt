@@ -1,10 +1,8 @@
 use mathlib.Core.List.{map}
 use Prim.Native.Nat.{suc, _+_}
-use mathlib.Core.Path.{_≡_, refl, sym, ap, _∙_}
+use mathlib.Core.Path.{_≡_}
 use native.Mathlib.Omega.{arith}
-use lib.ListN.{set}
-use Rattle.chain.specs.Ways.{beyond}
-use Rattle.chain.specs.Chains.{keysIn, nextsIn, chained}
+use Rattle.chain.specs.Chains.{chained}
 use Rattle.chain.proofs.Cells.{beyond-there}
 use Rattle.chain.proofs.Found.{missing}
 use Rattle.chain.proofs.Sounds.{runs-to, room-appended, chained-appended, sound-appended}
