@@ -20,6 +20,7 @@ use Rattle.reckoning.proofs.Bound.{made}
 use Rattle.bench.specs.declared.ledger.Ledger.{Ledger}
 use Rattle.bench.specs.Benches.{limitsOf, benchOf, Called}
 use Rattle.bench.specs.Admission.{admitted, failed}
+use Rattle.bench.proofs.Fitting.{ok-not-err}
 
 -- what was denied failed a check, and what was given passed them all
 pub admitted-err : {T : Type 0} (o : Option Denial) (x : T) {r : Result T Denial} {d : Denial} → r ≡ admitted o x → r ≡ Err d → o ≡ Some d
@@ -47,22 +48,24 @@ module _ {K H R : Type 0} (key : KeyMeaning K) (house : LineMeaning H K) (rival 
   pub settled-call : (call : Call (key .Value)) (h : H) (r : R) (ledger : Ledger) {answer : Result (Unit {0}) Denial} (h′ : H) (r′ : R) (ledger′ : Ledger)
       → house .sound h′ → rival .sound r′ → limitsOf key house rival h′ r′ ≡ limitsOf key house rival h r → (o : Option Denial) → failed key house rival call h r ledger ≡ o
       → decided o (done (key .equal) call (benchOf key house rival h r ledger)) (benchOf key house rival h r ledger) ≡ (answer, benchOf key house rival h′ r′ ledger′)
+      → ((denial : Denial) → answer ≡ Err denial → (house .keys h′ ≡ house .keys h) × (rival .keys r′ ≡ rival .keys r))
       → Called key house rival call h r ledger answer h′ r′ ledger′
-  settled-call call h r ledger {answer} h′ r′ ledger′ sh sr limits o e settled =
+  settled-call call h r ledger {answer} h′ r′ ledger′ sh sr limits o e settled kept =
       let s : State (key .Value) = benchOf key house rival h r ledger in
       record {
         houseSound = sh;
         rivalSound = sr;
         limits = limits;
         made = made (key .equal) decides (limitsOf key house rival h r) call s answer (benchOf key house rival h′ r′ ledger′) (ap (λ o. decided o (done (key .equal) call s) s) e ∙ settled);
+        kept = kept;
       }
 
   pub denied-call : (call : Call (key .Value)) (h : H) (r : R) (ledger : Ledger) {answer : Result (Unit {0}) Denial} (d : Denial) → house .sound h → rival .sound r
       → answer ≡ Err d → failed key house rival call h r ledger ≡ Some d → Called key house rival call h r ledger answer h r ledger
-  denied-call call h r ledger d sh sr a e = settled-call call h r ledger h r ledger sh sr refl (Some d) e (ap (λ b. (b, benchOf key house rival h r ledger)) (sym a))
+  denied-call call h r ledger d sh sr a e = settled-call call h r ledger h r ledger sh sr refl (Some d) e (ap (λ b. (b, benchOf key house rival h r ledger)) (sym a)) (λ _ _. (refl, refl))
 
   pub done-call : (call : Call (key .Value)) (h : H) (r : R) (ledger : Ledger) {answer : Result (Unit {0}) Denial} (h′ : H) (r′ : R) (ledger′ : Ledger)
       → house .sound h′ → rival .sound r′ → limitsOf key house rival h′ r′ ≡ limitsOf key house rival h r
       → answer ≡ Ok tt → failed key house rival call h r ledger ≡ None → benchOf key house rival h′ r′ ledger′ ≡ done (key .equal) call (benchOf key house rival h r ledger)
       → Called key house rival call h r ledger answer h′ r′ ledger′
-  done-call call h r ledger h′ r′ ledger′ sh sr limits a e after = settled-call call h r ledger h′ r′ ledger′ sh sr limits None e (λ i. (sym a i, sym after i))
+  done-call call h r ledger h′ r′ ledger′ sh sr limits a e after = settled-call call h r ledger h′ r′ ledger′ sh sr limits None e (λ i. (sym a i, sym after i)) (λ _ b. absurd (ok-not-err a b))

@@ -19,7 +19,7 @@ use Rattle.lines.specs.Orders.{takenOut, exchanged, broughtForward}
 use Rattle.lines.specs.Places.{stands, walk}
 use Rattle.lines.proofs.Kept.{map-takenOut, map-exchanged}
 use Rattle.lines.proofs.Forward.{map-forward}
-use Rattle.reckoning.specs.Reckoning.{Sums, State, Call, load, lookup, add, remove, exchange, served, paidFor, firstFailed, checks, done}
+use Rattle.reckoning.specs.Reckoning.{Sums, State, Call, load, lookup, add, remove, exchange, most, served, paidFor, firstFailed, checks, done}
 use Rattle.reckoning.proofs.Values.{walk-before, walk-within}
 use Rattle.reckoning.proofs.Bound.{AllPass, passes, matched, within-goal}
 use Rattle.bench.specs.declared.ledger.Ledger.{Ledger}
@@ -32,7 +32,7 @@ use Rattle.bench.proofs.Calls.{admitted-ok}
 pub record Ready (ledger : Ledger) (denial : Option Denial) (places given : Places) (houseCount rivalCount : ℕ) : Type 0 where
   pub passed : denial ≡ None
   pub at : places ≡ given
-  pub counted : ledger .requests < 1000000
+  pub counted : ledger .requests < most
   pub houseLow : 1 ≤ places .house
   pub houseHigh : places .house ≤ houseCount
   pub rivalLow : 1 ≤ places .rival

@@ -1,4 +1,5 @@
--- What the checks of a call give: the first denial, or the places at which its key stands or is put.
+-- What the checks of a call give: the first denial, or the places at which its key stands or is put. Only contracts inside the
+-- crate cite these.
 use mathlib.Core.Bool.{Bool, true, false, cond}
 use mathlib.Core.List.{List, [], _∷_}
 use Prim.Native.Nat.{ℕ, suc}
@@ -31,27 +32,27 @@ module _ {K H R : Type 0} (key : KeyMeaning K) (house : LineMeaning H K) (rival 
   abbrev pub loadFailed : K → H → R → Option Denial
   loadFailed k h r =
       firstFailed (checks (key .equal) (limitsOf key house rival h r) (load (key .value k)) (record {
-        house = valuesOf key house rival (house .keys h);
-        rival = valuesOf key house rival (rival .keys r);
+        house = valuesOf key (house .keys h);
+        rival = valuesOf key (rival .keys r);
         sums = zeros;
       }))
 
   -- where a key stands on the two sides
   abbrev pub placesOf : K → H → R → Places
   placesOf k h r = record {
-    house = walk (key .equal) (key .value k) (valuesOf key house rival (house .keys h));
-    rival = walk (key .equal) (key .value k) (valuesOf key house rival (rival .keys r));
+    house = walk (key .equal) (key .value k) (valuesOf key (house .keys h));
+    rival = walk (key .equal) (key .value k) (valuesOf key (rival .keys r));
   }
 
   -- the places behind the last ones
   abbrev pub nextPlaces : H → R → Places
   nextPlaces h r = record {
-    house = suc (length (valuesOf key house rival (house .keys h)));
-    rival = suc (length (valuesOf key house rival (rival .keys r)));
+    house = suc (length (valuesOf key (house .keys h)));
+    rival = suc (length (valuesOf key (rival .keys r)));
   }
 
   -- the places of a key that stands on both sides, none where it stands on neither, and denied where the sides do not match
   abbrev pub found : K → H → R → Result (Option Places) Denial
   found k h r =
-      admitted (firstFailed ((unmatched (key .equal) (key .value k) (valuesOf key house rival (house .keys h)) (valuesOf key house rival (rival .keys r)), Unmatched) ∷ []))
-      (cond (stands (key .equal) (key .value k) (valuesOf key house rival (house .keys h))) (Some (placesOf k h r)) None)
+      admitted (firstFailed ((unmatched (key .equal) (key .value k) (valuesOf key (house .keys h)) (valuesOf key (rival .keys r)), Unmatched) ∷ []))
+      (cond (stands (key .equal) (key .value k) (valuesOf key (house .keys h))) (Some (placesOf k h r)) None)

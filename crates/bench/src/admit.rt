@@ -1,12 +1,12 @@
 // The checks of each call, in their order, before anything is changed.
 ghost use mathlib.Core.Path.{_≡_};
 ghost use mathlib.Core.List.{map};
-ghost use mathlib.Core.Bool.{_&&_};
 ghost use Prim.Native.Nat.{_≤_};
-ghost use lib.Dec.{eqb};
 ghost use lib.ListN.{length};
 ghost use Rattle.reckoning.specs.Reckoning.{outside, lookup, add, remove};
+ghost use Rattle.bench.specs.Benches.{bothEmpty};
 ghost use Rattle.bench.specs.Admission.{admitted, failed, loadFailed, found, placesOf, nextPlaces};
+use super::ledger::COUNTER_LIMIT;
 use super::ledger::Ledger;
 use keys::Denial;
 use keys::Key;
@@ -32,9 +32,9 @@ fn count_of<K: Key, L: Orderly<K>>(line: &L) -> usize
 // Whether no key stands in either line.
 pub(crate) fn both_empty<K: Key, H: Orderly<K>, R: Orderly<K>>(house: &H, rival: &R) -> bool
     requires { ⌜ H·Line .sound (now house) ⌝ ∗ ⌜ R·Line .sound (now rival) ⌝ }
-    ensures { λ r. ⌜ r ≡ (eqb (length (map (K·Key .value) (H·Line .keys (now (house .entry))))) 0 && eqb (length (map (K·Key .value) (R·Line .keys (now (rival .entry))))) 0) ⌝ }
+    ensures { λ r. ⌜ r ≡ bothEmpty (H·Line .keys (now (house .entry))) (R·Line .keys (now (rival .entry))) ⌝ }
 {
-    count_of(house) == 0 && count_of(rival) == 0
+    house.count() == 0 && rival.count() == 0
 }
 
 // The places of a key that stands on both sides, or none where it stands on neither.
@@ -76,7 +76,7 @@ pub(crate) fn admit_remove<K: Key, H: Orderly<K>, R: Orderly<K>>(
     requires { ⌜ H·Line .sound (now house) ⌝ ∗ ⌜ R·Line .sound (now rival) ⌝ }
     ensures { λ r. ⌜ r ≡ admitted (failed K·Key H·Line R·Line (remove (K·Key .value (now (key .entry)))) (now (house .entry)) (now (rival .entry)) ledger) (placesOf K·Key H·Line R·Line (now (key .entry)) (now (house .entry)) (now (rival .entry))) ⌝ }
 {
-    if ledger.requests == 1_000_000 {
+    if ledger.requests == COUNTER_LIMIT {
         return Err(Denial::Exhausted);
     }
     let Some(places) = find(house, rival, key)? else {
@@ -139,7 +139,7 @@ pub(crate) fn admit_add<K: Key, H: Orderly<K>, R: Orderly<K>>(
     requires { ⌜ H·Line .sound (now house) ⌝ ∗ ⌜ R·Line .sound (now rival) ⌝ }
     ensures { λ r. ⌜ r ≡ admitted (failed K·Key H·Line R·Line (add (K·Key .value (now (key .entry))) goal) (now (house .entry)) (now (rival .entry)) ledger) (nextPlaces K·Key H·Line R·Line (now (house .entry)) (now (rival .entry))) ⌝ }
 {
-    if ledger.requests == 1_000_000 {
+    if ledger.requests == COUNTER_LIMIT {
         return Err(Denial::Exhausted);
     }
     let places = admit_load(house, rival, key)?;

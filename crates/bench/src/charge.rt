@@ -1,7 +1,7 @@
 // What requests and exchanges add to a ledger.
 ghost use mathlib.Core.Path.{_≡_};
 ghost use Prim.Native.Nat.{_≤_, _<_};
-ghost use Rattle.reckoning.specs.Reckoning.{zeros, served, paidFor};
+ghost use Rattle.reckoning.specs.Reckoning.{most, zeros, served, paidFor};
 ghost use Rattle.bench.specs.Benches.{sumsOf};
 use super::admit::Places;
 use super::ledger::Ledger;
@@ -22,7 +22,7 @@ impl Ledger {
 
     // One request more: each side pays its place, and the rival makes `moved` free exchanges.
     pub(crate) fn served(self, places: Places, moved: usize) -> Ledger
-        requires counted { ⌜ self .requests < 1000000 ⌝ }
+        requires counted { ⌜ self .requests < most ⌝ }
         requires house { ⌜ places .house ≤ 256 ⌝ }
         requires rival { ⌜ places .rival ≤ 256 ⌝ }
         requires moved { ⌜ moved < places .rival ⌝ }
@@ -39,7 +39,7 @@ impl Ledger {
 
     // One paid exchange more.
     pub(crate) fn exchanged(self) -> Ledger
-        requires { ⌜ self .paid < 1000000 ⌝ }
+        requires { ⌜ self .paid < most ⌝ }
         ensures { λ r. ⌜ sumsOf r ≡ paidFor (sumsOf self) ⌝ }
     {
         Ledger {

@@ -2,10 +2,10 @@
 use mathlib.Core.Path.{_≡_}
 use mathlib.Core.Bool.{Bool}
 use mathlib.Core.List.{List, map}
-use Prim.Native.Nat.{ℕ, min, _≤_}
+use Prim.Native.Nat.{ℕ, _≤_}
 use lib.Dec.{eqb}
 use lib.ListN.{length}
-use Rattle.lines.specs.Places.{Different}
+use Rattle.lines.specs.Places.{Different, limitFor}
 use Rattle.chain.specs.declared.Cell.{Cell}
 use Rattle.chain.specs.Ways.{way, picked}
 
@@ -18,7 +18,7 @@ nextsIn cells = map (λ c. c .next) cells
 
 -- how many cells a chain uses, which is its limit
 abbrev pub room : {K : Type 0} → List (Cell K) → ℕ
-room cells = min 256 (length cells)
+room cells = limitFor (length cells)
 
 -- the keys of the way's first cells
 abbrev pub chained : {K : Type 0} → List (Cell K) → ℕ → ℕ → List K
@@ -29,7 +29,7 @@ pub record Whole {K : Type 0} (cells : List (Cell K)) (head : ℕ) : Type 0 wher
   pub runs : length (way (nextsIn cells) head (room cells)) ≡ room cells
   pub apart : Different eqb (way (nextsIn cells) head (room cells))
 
--- the way is whole, `count` keys stand in its first cells, and they differ
+-- the way is whole, `count` keys stand in its first cells (so many, as `counted` says again), and they differ
 pub record Sound {K V : Type 0} (equal : V → V → Bool) (value : K → V) (cells : List (Cell K)) (head count : ℕ) : Type 0 where
   pub whole : Whole cells head
   pub within : count ≤ room cells

@@ -1,4 +1,5 @@
--- Ways through numbered entries, of which each tells the number of the next.
+-- Ways through numbered entries, of which each tells the number of the next. `way` and `picked` say what a chain means;
+-- `beyond`, `redirected` and `movedBack` only serve contracts inside the crate.
 use mathlib.Core.List.{List, [], _∷_, _++_}
 use Prim.Native.Nat.{ℕ, zero, suc}
 use lib.ListN.{take, drop, getD, set}

@@ -8,7 +8,7 @@ use Rattle.std.specs.declared.option.Option.the-variants.{Some, None}
 abbrev pub codeSpelling : ℕ → List ℕ
 codeSpelling n = n / 256 ∷ n % 256 ∷ []
 
--- the number of exactly two bytes
+-- the number of a spelling of exactly two bytes
 abbrev pub codeRead : List ℕ → Option ℕ
 codeRead [] = None
 codeRead (high ∷ []) = None

@@ -1,7 +1,7 @@
 -- What reading a spelling answers, and what writing a text into a buffer answers and leaves.
 use mathlib.Core.Path.{_≡_}
-use mathlib.Core.Bool.{Bool, true, false, cond}
-use mathlib.Core.List.{List, [], _∷_, _++_}
+use mathlib.Core.Bool.{Bool, true, cond}
+use mathlib.Core.List.{List, _++_}
 use Prim.Native.Nat.{ℕ}
 use lib.Dec.{ltb}
 use lib.ListN.{length, drop}
@@ -12,7 +12,7 @@ use Rattle.std.specs.declared.result.Result.the-variants.{Ok, Err}
 use Rattle.keys.specs.declared.denial.Denial.{Denial}
 use Rattle.keys.specs.declared.denial.Denial.the-variants.{Layout, NoRoom}
 
--- the answer by its value: a key by what it means, a denial as it is
+-- an answer by what it means: what was given by its meaning, as a key by its value, and a denial as it is
 abbrev pub meant : {K V : Type 0} → (K → V) → Result K Denial → Result V Denial
 meant value (Ok k) = Ok (value k)
 meant value (Err d) = Err d

@@ -22,6 +22,7 @@ pub impl Key for Code as CodeKey {
 
     ghost reading = { codeRead };
 
+    // `C`
     ghost letter = { 67 };
 
     ghost longest = { 2 };

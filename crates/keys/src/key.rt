@@ -1,6 +1,6 @@
 // A kind of key.
 ghost use mathlib.Core.Path.{_≡_};
-ghost use mathlib.Core.Bool.{Bool, true};
+ghost use mathlib.Core.Bool.{Bool};
 ghost use mathlib.Core.List.{List};
 ghost use Prim.Native.Nat.{ℕ, _<_};
 ghost use lib.ListN.{length};
@@ -32,21 +32,26 @@ pub trait Key: Copy {
 
     ghost longest: { ℕ };
 
+    // The test is true exactly at equal values.
     law decides: { (v w : Value) → Decides (equal v w) (v ≡ w) };
 
+    // A key's spelling is read as its value.
     law restores: { (k : Self) → reading (spelling k) ≡ Some (value k) };
 
+    // No longer spelling has a value.
     law bounded: { (s : List ℕ) → longest < length s → reading s ≡ None };
 
+    // The letter and the longest spelling. A clause of generic code knows no constant's value, so generic code asks the two
+    // functions below, whose contracts tie them to the meaning.
     const LETTER: u8;
 
     const LONGEST: usize;
 
-    // The letter, as a promise.
+    // The constant `LETTER`, as the kind's letter.
     fn kind_letter() -> u8
         ensures { λ r. ⌜ r ≡ letter ⌝ };
 
-    // The length of the longest spelling, as a promise.
+    // The constant `LONGEST`, as the length of the kind's longest spelling.
     fn longest_spelling() -> usize
         ensures { λ r. ⌜ r ≡ longest ⌝ };
 

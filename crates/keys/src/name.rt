@@ -72,6 +72,7 @@ pub impl Key for Name as NameKey {
 
     ghost reading = { nameRead };
 
+    // `N`
     ghost letter = { 78 };
 
     ghost longest = { 16 };

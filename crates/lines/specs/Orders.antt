@@ -21,9 +21,9 @@ keyAt (suc n) [] = Err OutOfRange
 keyAt (suc zero) (x ∷ xs) = Ok x
 keyAt (suc (suc n)) (x ∷ xs) = keyAt (suc n) xs
 
--- a key can be taken out of a list of n at place 1 to n
-abbrev pub mayTakeOut : ℕ → ℕ → Bool
-mayTakeOut place n = leb 1 place && leb place n
+-- whether a place is one of n: from 1 to n
+abbrev pub isPlace : ℕ → ℕ → Bool
+isPlace place n = leb 1 place && leb place n
 
 -- the list closed up behind a place
 abbrev pub takenOut : {X : Type 0} → ℕ → List X → List X

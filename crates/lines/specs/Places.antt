@@ -1,7 +1,7 @@
 -- Where a value stands in a list of values, by a test that tells values apart.
 use mathlib.Core.Bool.{Bool, true, false, _||_, cond}
 use mathlib.Core.List.{List, [], _∷_, _++_, map}
-use Prim.Native.Nat.{ℕ, suc, _+_, _≤_}
+use Prim.Native.Nat.{ℕ, suc, min, _+_, _≤_}
 use lib.Dec.{eqb}
 use lib.ListN.{length}
 use Rattle.std.specs.declared.option.Option.{Option}
@@ -39,3 +39,7 @@ abbrev pub appended : {K V : Type 0} → (V → V → Bool) → (K → V) → �
 appended equal value limit k xs =
     cond (stands equal (value k) (map value xs)) (Err Present, xs)
     (cond (eqb (length xs) limit) (Err Full, xs) (Ok tt, xs ++ k ∷ []))
+
+-- the most keys that a line over a number of cells takes: as many as there are cells, but no more than 256
+abbrev pub limitFor : ℕ → ℕ
+limitFor cells = min 256 cells

@@ -4,7 +4,7 @@ ghost use mathlib.Core.Bool.{Bool};
 ghost use mathlib.Core.List.{List, map};
 ghost use Prim.Native.Nat.{ℕ, _≤_};
 ghost use lib.ListN.{length};
-ghost use Rattle.lines.specs.Orders.{allowed, keyAt, mayTakeOut, takenOut, mayExchange, exchanged, mayBringForward, broughtForward};
+ghost use Rattle.lines.specs.Orders.{allowed, keyAt, isPlace, takenOut, mayExchange, exchanged, mayBringForward, broughtForward};
 ghost use Rattle.lines.specs.Places.{placeOf, appended, Different};
 use keys::Denial;
 use keys::Key;
@@ -19,10 +19,13 @@ fn may_bring_forward(from: usize, to: usize, count: usize) -> bool
 // A line means a list of keys in order and a limit, the most keys that it takes. Places count from 1.
 // Each call may rely on the line being sound, and leaves it so, denied or not.
 pub trait Line<K: Key> {
+    // What must hold of a line's own fields for it to mean a list.
     ghost sound: { Self → Type 0 };
 
+    // The keys, from the front.
     ghost keys: { Self → List K };
 
+    // The most keys that the line takes.
     ghost limit: { Self → ℕ };
 
     // How many keys stand in the line.
@@ -57,7 +60,7 @@ pub trait Line<K: Key> {
         requires { ⌜ sound (now self) ⌝ }
         ensures sound { λ _. ⌜ sound (now (self .exit)) ⌝ }
         ensures limit { λ _. ⌜ limit (now (self .exit)) ≡ limit (now (self .entry)) ⌝ }
-        ensures gives { λ r. ⌜ r ≡ allowed (mayTakeOut place (length (keys (now (self .entry))))) ⌝ }
+        ensures gives { λ r. ⌜ r ≡ allowed (isPlace place (length (keys (now (self .entry))))) ⌝ }
         ensures keys { λ _. ⌜ keys (now (self .exit)) ≡ takenOut place (keys (now (self .entry))) ⌝ };
 
     // Lets the keys at a place and at the next one change places.

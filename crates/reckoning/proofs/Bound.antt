@@ -5,7 +5,7 @@ use mathlib.Core.Logic.{inl, inr}
 use mathlib.Core.List.{List, [], _∷_, _++_}
 use Prim.Native.Nat.{ℕ, suc, pred, _+_, _-_, _*_, _≤_}
 use native.Mathlib.Omega.{arith}
-use lib.Dec.{leb, eqb}
+use lib.Dec.{eqb}
 use lib.ListN.{length}
 use Rattle.std.specs.Orderings.{Decides}
 use Rattle.std.proofs.shelf.Tests.{cases-bool, or-parts, not-false, true≢false, eqb-true}
@@ -160,7 +160,7 @@ module _ {V : Type 0} (equal : V → V → Bool) (decides : (v w : V) → Decide
   from-keeps limits s (call ∷ calls) b = from-keeps limits (step equal limits call s .1) calls (keeps limits call s b)
 
   pub twice-law : TwiceLaw V equal
-  twice-law limits calls = omega (arith, from-keeps limits (empty equal) calls (record { same = λ w. refl; different = λ w. omega arith; covered = omega arith }) .covered)
+  twice-law limits calls = omega (arith, from-keeps limits empty calls (record { same = λ w. refl; different = λ w. omega arith; covered = omega arith }) .covered)
 
   -- one call more
   reckoned-more : (limits : Limits) (s : State V) (calls : List (Call V)) (call : Call V) → reckonedFrom equal limits s (calls ++ call ∷ []) ≡ step equal limits call (reckonedFrom equal limits s calls) .1
@@ -171,7 +171,7 @@ module _ {V : Type 0} (equal : V → V → Bool) (decides : (v w : V) → Decide
   pub made : (limits : Limits) (call : Call V) (before : State V) (answer : Result (Unit {0}) Denial) (after : State V) → step equal limits call before ≡ (answer, after) → Made equal limits call before answer after
   made limits call before answer after e =
       let more : (calls : List (Call V)) → before ≡ reckoned equal limits calls → after ≡ reckoned equal limits (calls ++ call ∷ []) =
-      λ calls h. sym (ap (λ p. p .1) e) ∙ ap (λ s. step equal limits call s .1) h ∙ sym (reckoned-more limits (empty equal) calls call) in
+      λ calls h. sym (ap (λ p. p .1) e) ∙ ap (λ s. step equal limits call s .1) h ∙ sym (reckoned-more limits empty calls call) in
       record {
         reckons = e;
         history = more;

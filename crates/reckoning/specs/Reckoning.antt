@@ -1,9 +1,9 @@
 -- The reckoning of a bench: what a list of calls does to two orders of key values and five numbers, from the lines' limits alone.
 use mathlib.Core.Path.{_≡_}
-use mathlib.Core.Bool.{Bool, true, false, not, cond, _&&_, _||_}
+use mathlib.Core.Bool.{Bool, not, cond, _||_}
 use mathlib.Core.List.{List, [], _∷_, _++_}
 use Prim.Native.Nat.{ℕ, suc, _+_, _-_}
-use lib.Dec.{leb, eqb}
+use lib.Dec.{eqb}
 use lib.ListN.{length}
 use Rattle.std.specs.declared.option.Option.{Option}
 use Rattle.std.specs.declared.option.Option.the-variants.{Some, None}
@@ -11,10 +11,13 @@ use Rattle.std.specs.declared.result.Result.{Result}
 use Rattle.std.specs.declared.result.Result.the-variants.{Ok, Err}
 use Rattle.keys.specs.declared.denial.Denial.{Denial}
 use Rattle.keys.specs.declared.denial.Denial.the-variants.{Unmatched, OutOfRange, Present, Full, Absent, Exhausted, BadGoal}
-use Rattle.lines.specs.Orders.{mayExchange, exchanged, takenOut, broughtForward}
+use Rattle.lines.specs.Orders.{isPlace, mayExchange, exchanged, takenOut, broughtForward}
 use Rattle.lines.specs.Places.{stands, walk}
 
--- the five numbers of a ledger: requests, the cost of each side, paid and free exchanges
+-- The house moves each looked up or added key to the front. The rival moves it to a goal, a place that its caller names;
+-- the exchanges on that way are free, and any other exchange of two neighbours of the rival is paid.
+
+-- the five numbers of a ledger: requests, the cost of the house and of the rival, the rival's paid and free exchanges
 pub record Sums : Type 0 where
   pub requests : ℕ
   pub house : ℕ
@@ -33,14 +36,15 @@ pub record Limits : Type 0 where
   pub house : ℕ
   pub rival : ℕ
 
--- the calls of a bench between its opening and whenever one looks at it
+-- the calls of a bench after its opening, with the value of their key, the rival's goal or a place in the rival line. A list of
+-- them may have any order here; the types of the standings hold a caller to loads, start, requests and exchanges, close
 pub data Call (V : Type 0) : Type 0 where
-  load : V → Call V
+  load : (key : V) → Call V
   start : Call V
-  lookup : V → ℕ → Call V
-  add : V → ℕ → Call V
-  remove : V → Call V
-  exchange : ℕ → Call V
+  lookup : (key : V) (goal : ℕ) → Call V
+  add : (key : V) (goal : ℕ) → Call V
+  remove : (key : V) → Call V
+  exchange : (place : ℕ) → Call V
   close : Call V
 
 abbrev pub zeros : Sums
@@ -74,27 +78,32 @@ abbrev pub decided : {S : Type 0} → Option Denial → S → S → Result (Unit
 decided None after before = (Ok tt, after)
 decided (Some denial) after before = (Err denial, before)
 
--- a goal outside 1 to the place
+-- a goal that is not from 1 to the place
 abbrev pub outside : ℕ → ℕ → Bool
-outside goal place = not (leb 1 goal && leb goal place)
+outside goal place = not (isPlace goal place)
+
+-- two lines of no keys, and nothing counted
+abbrev pub empty : {V : Type 0} → State V
+empty = record { house = []; rival = []; sums = zeros }
+
+-- one of the lines has as many keys as its limit
+abbrev pub full : {V : Type 0} → Limits → State V → Bool
+full limits s = eqb (length (s .house)) (limits .house) || eqb (length (s .rival)) (limits .rival)
 
 module _ {V : Type 0} (equal : V → V → Bool) where
-  abbrev pub empty : State V
-  empty = record { house = []; rival = []; sums = zeros }
-
   -- the lines' counts differ, or the key stands in just one line
   abbrev pub unmatched : V → List V → List V → Bool
   unmatched v house rival =
       not (eqb (length house) (length rival))
       || cond (stands equal v house) (not (stands equal v rival)) (stands equal v rival)
 
-  -- one of the lines has as many keys as its limit
-  abbrev pub full : Limits → List V → List V → Bool
-  full limits house rival = eqb (length house) (limits .house) || eqb (length rival) (limits .rival)
-
   -- the checks of each call, as what fails and the denial that it brings
   abbrev pub checks : Limits → Call V → State V → List (Bool × Denial)
-  checks limits (load v) s = (unmatched v (s .house) (s .rival), Unmatched) ∷ (stands equal v (s .house), Present) ∷ (full limits (s .house) (s .rival), Full) ∷ []
+  checks limits (load v) s =
+      (unmatched v (s .house) (s .rival), Unmatched)
+      ∷ (stands equal v (s .house), Present)
+      ∷ (full limits s, Full)
+      ∷ []
   checks limits start s = []
   checks limits (lookup v goal) s =
       (eqb (s .sums .requests) most, Exhausted)
@@ -106,13 +115,18 @@ module _ {V : Type 0} (equal : V → V → Bool) where
       (eqb (s .sums .requests) most, Exhausted)
       ∷ (unmatched v (s .house) (s .rival), Unmatched)
       ∷ (stands equal v (s .house), Present)
-      ∷ (full limits (s .house) (s .rival), Full)
+      ∷ (full limits s, Full)
       ∷ (outside goal (suc (length (s .rival))), BadGoal)
       ∷ []
   checks limits (remove v) s =
-      (eqb (s .sums .requests) most, Exhausted) ∷ (unmatched v (s .house) (s .rival), Unmatched) ∷ (not (stands equal v (s .house)), Absent) ∷ []
+      (eqb (s .sums .requests) most, Exhausted)
+      ∷ (unmatched v (s .house) (s .rival), Unmatched)
+      ∷ (not (stands equal v (s .house)), Absent)
+      ∷ []
   checks limits (exchange place) s =
-      (eqb (s .sums .paid) most, Exhausted) ∷ (not (mayExchange place (length (s .rival))), OutOfRange) ∷ []
+      (eqb (s .sums .paid) most, Exhausted)
+      ∷ (not (mayExchange place (length (s .rival))), OutOfRange)
+      ∷ []
   checks limits close s = []
 
   -- what each call does where no check fails

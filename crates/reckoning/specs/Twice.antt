@@ -7,9 +7,16 @@ use Rattle.std.specs.declared.result.Result.{Result}
 use Rattle.keys.specs.declared.denial.Denial.{Denial}
 use Rattle.reckoning.specs.Reckoning.{Sums, State, Limits, Call, step, reckoned}
 
--- move-to-front costs at most twice what the rival's side costs
+-- the two sides of the bound
+abbrev pub houseSide : Sums → ℕ
+houseSide s = s .house + s .free + s .requests
+
+abbrev pub rivalSide : Sums → ℕ
+rivalSide s = 2 * s .rival + s .paid
+
+-- house cost, free exchanges and requests are together at most twice the rival cost plus the paid exchanges
 abbrev pub Twice : Sums → Type 0
-Twice s = s .house + s .free + s .requests ≤ 2 * s .rival + s .paid
+Twice s = houseSide s ≤ rivalSide s
 
 -- the law: after every list of calls from the opening on, denied ones among them
 abbrev pub TwiceLaw : (V : Type 0) → (V → V → Bool) → Type 0

@@ -8,7 +8,8 @@ pub fn worked_runs()
     ensures { λ _. ⌜ WorkedRuns ⌝ }
 {}
 
-// Whatever was called, move-to-front costs at most twice the rival, for every kind of key.
+// Whatever was called, house cost, free exchanges and requests are at most twice the rival cost plus the paid exchanges, for every
+// kind of key.
 pub fn twice_bound<K: Key>()
     ensures { λ _. ⌜ TwiceLaw (K·Key .Value) (K·Key .equal) ⌝ }
 {}

@@ -1,9 +1,9 @@
 -- What a row means, by its cells and its count.
 use mathlib.Core.Bool.{Bool}
 use mathlib.Core.List.{List, map}
-use Prim.Native.Nat.{ℕ, min, _≤_}
+use Prim.Native.Nat.{ℕ, _≤_}
 use lib.ListN.{length, take}
-use Rattle.lines.specs.Places.{Different}
+use Rattle.lines.specs.Places.{Different, limitFor}
 use Rattle.row.specs.declared.Row.{Row}
 
 -- the keys, in order: the first cells, as many as the count says
@@ -12,7 +12,7 @@ rowKeys row = take (row .count) (row .cells .now)
 
 -- the most keys that a row over a list of cells takes
 abbrev pub limitOver : {K : Type 0} → List K → ℕ
-limitOver cells = min 256 (length cells)
+limitOver cells = limitFor (length cells)
 
 abbrev pub rowLimit : {K : Type 0} → Row K → ℕ
 rowLimit row = limitOver (row .cells .now)

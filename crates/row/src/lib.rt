@@ -1,10 +1,10 @@
 // A row: a line that keeps its keys in order in cells that its user provides.
 ghost use mathlib.Core.Path.{_≡_};
-ghost use mathlib.Core.List.{[], map};
+ghost use mathlib.Core.List.{[], _∷_, _++_, map};
 ghost use Prim.Native.Nat.{_+_, _≤_, _<_};
 ghost use lib.Dec.{eqb};
-ghost use lib.ListN.{length};
-ghost use Rattle.lines.specs.Orders.{keyAt, mayTakeOut, takenOut, mayExchange, exchanged};
+ghost use lib.ListN.{length, take};
+ghost use Rattle.lines.specs.Orders.{keyAt, isPlace, takenOut, mayExchange, exchanged};
 ghost use Rattle.lines.specs.Places.{placeOf};
 ghost use Rattle.row.specs.Rows.{rowKeys, limitOver, rowLimit, RowSound};
 use keys::Denial;
@@ -50,7 +50,7 @@ impl<'a, K: Key> Row<'a, K> {
 
 // Whether a place is one of `count`.
 fn is_place(place: usize, count: usize) -> bool
-    ensures { λ r. ⌜ r ≡ mayTakeOut place count ⌝ }
+    ensures { λ r. ⌜ r ≡ isPlace place count ⌝ }
 {
     1 <= place && place <= count
 }
@@ -102,6 +102,14 @@ fn close_up<K: Key>(cells: &mut [K], place: usize, count: usize)
     }
 }
 
+// Puts a key behind the first `count`.
+fn put_next<K: Key>(cells: &mut [K], count: usize, key: K)
+    requires { ⌜ count < length (now cells) ⌝ }
+    ensures { λ _. ⌜ take (count + 1) (now (cells .exit)) ≡ take count (now (cells .entry)) ++ key ∷ [] ⌝ }
+{
+    cells[count] = key;
+}
+
 // Lets the keys at a place and at the next one change places.
 fn swap_next<K: Key>(cells: &mut [K], place: usize)
     requires { ⌜ 1 ≤ place ⌝ ∗ ⌜ place < length (now cells) ⌝ }
@@ -142,7 +150,7 @@ pub impl<'a, K: Key> Line<K> for Row<'a, K> as RowLine {
             return Err(Denial::Full);
         }
         let count = self.count;
-        self.cells[count] = key;
+        put_next(self.cells, count, key);
         self.count = count + 1;
         Ok(())
     }

@@ -1,6 +1,5 @@
 // A bench that is loading.
 ghost use mathlib.Core.Path.{_≡_};
-ghost use mathlib.Core.List.{map};
 ghost use Rattle.std.specs.declared.result.Result.the-variants.{Ok};
 ghost use Rattle.keys.specs.Spelling.{meant};
 ghost use Rattle.reckoning.specs.Reckoning.{load, start};
@@ -24,7 +23,7 @@ impl Loading {
         rival: &R,
     ) -> Result<Loading, Denial>
         requires { ⌜ H·Line .sound (now house) ⌝ ∗ ⌜ R·Line .sound (now rival) ⌝ }
-        ensures { λ r. ⌜ meant (λ (s : Loading). benchOf K·Key H·Line R·Line (now (house .entry)) (now (rival .entry)) (s .ledger)) r ≡ opened (K·Key .equal) (map (K·Key .value) (H·Line .keys (now (house .entry)))) (map (K·Key .value) (R·Line .keys (now (rival .entry)))) ⌝ }
+        ensures { λ r. ⌜ meant (λ (s : Loading). benchOf K·Key H·Line R·Line (now (house .entry)) (now (rival .entry)) (s .ledger)) r ≡ opened K·Key H·Line R·Line (now (house .entry)) (now (rival .entry)) ⌝ }
     {
         if !both_empty(house, rival) {
             return Err(Denial::NotEmpty);
@@ -57,7 +56,7 @@ impl Loading {
         Running { ledger }
     }
 
-    // The numbers, all zero.
+    // The numbers; loading costs nothing.
     pub fn ledger(&self) -> Ledger
         ensures { λ r. ⌜ r ≡ now (self .entry) .ledger ⌝ }
     {

@@ -10,6 +10,7 @@ use super::super::effect::append_both;
 use super::super::effect::bring_both;
 use super::super::effect::kept;
 use super::super::effect::take_both;
+use super::super::ledger::COUNTER_LIMIT;
 use super::super::ledger::Ledger;
 use super::Closed;
 use super::Running;
@@ -80,7 +81,7 @@ impl Running {
         requires { ⌜ H·Line .sound (now house) ⌝ ∗ ⌜ R·Line .sound (now rival) ⌝ }
         ensures { λ r. ⌜ Called K·Key H·Line R·Line (exchange place) (now (house .entry)) (now (rival .entry)) (now (self .entry) .ledger) r (now (house .entry)) (now (rival .exit)) (now (self .exit) .ledger) ⌝ }
     {
-        if self.ledger.paid == 1_000_000 {
+        if self.ledger.paid == COUNTER_LIMIT {
             return Err(Denial::Exhausted);
         }
         rival.exchange(place)?;
