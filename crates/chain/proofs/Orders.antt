@@ -1,4 +1,4 @@
--- What calls do to a list of entries: at a seam, to a front, to how often an entry occurs, and outside their range.
+-- What calls do to a list of entries: at a seam, to a front, and to how often an entry occurs.
 use mathlib.Core.Path.{_≡_, refl, ap}
 use mathlib.Core.List.{List, [], _∷_, _++_}
 use Prim.Native.Nat.{ℕ, zero, suc, _+_, _≤_, _<_}
@@ -6,8 +6,7 @@ use native.Mathlib.Omega.{arith}
 use lib.Dec.{eqb}
 use lib.ListN.{length, take, drop}
 use Rattle.std.proofs.shelf.Lists.{take-append-drop, length-take-le, length-append, take-at, drop-at}
-use Rattle.std.specs.declared.result.Result.the-variants.{Ok, Err}
-use Rattle.keys.specs.declared.denial.Denial.the-variants.{OutOfRange}
+use Rattle.std.specs.declared.result.Result.the-variants.{Ok}
 use Rattle.lines.specs.Orders.{keyAt, takenOut, exchanged}
 use Rattle.lines.specs.Places.{occurrences}
 use Rattle.lines.proofs.Kept.{occurrences-append}
@@ -63,27 +62,7 @@ module _ {X : Type 0} where
   take-exchanged (suc zero) (suc (suc n)) (x ∷ y ∷ xs) h = refl
   take-exchanged (suc (suc p)) (suc n) (x ∷ xs) h = ap (λ ys. x ∷ ys) (take-exchanged (suc p) n xs (omega arith))
 
-  -- outside the range
-  pub exchanged-outside : (p : ℕ) (xs : List X) → (1 ≤ p → p < length xs → ⊥) → exchanged p xs ≡ xs
-  exchanged-outside zero xs h = refl
-  exchanged-outside (suc p) [] h = refl
-  exchanged-outside (suc zero) (x ∷ []) h = refl
-  exchanged-outside (suc zero) (x ∷ y ∷ xs) h = absurd (h (omega arith) (omega arith))
-  exchanged-outside (suc (suc p)) (x ∷ xs) h = ap (λ ys. x ∷ ys) (exchanged-outside (suc p) xs (λ a b. h (omega arith) (omega arith)))
-
-  pub takenOut-outside : (p : ℕ) (xs : List X) → (1 ≤ p → p ≤ length xs → ⊥) → takenOut p xs ≡ xs
-  takenOut-outside zero xs h = refl
-  takenOut-outside (suc p) [] h = refl
-  takenOut-outside (suc zero) (x ∷ xs) h = absurd (h (omega arith) (omega arith))
-  takenOut-outside (suc (suc p)) (x ∷ xs) h = ap (λ ys. x ∷ ys) (takenOut-outside (suc p) xs (λ a b. h (omega arith) (omega arith)))
-
   -- the key at a place
   pub keyAt-at : (xs ys : List X) (y : X) → keyAt (suc (length xs)) (xs ++ y ∷ ys) ≡ Ok y
   keyAt-at [] ys y = refl
   keyAt-at (x ∷ xs) ys y = keyAt-at xs ys y
-
-  pub keyAt-outside : (p : ℕ) (xs : List X) → (1 ≤ p → p ≤ length xs → ⊥) → keyAt p xs ≡ Err OutOfRange
-  keyAt-outside zero xs h = refl
-  keyAt-outside (suc p) [] h = refl
-  keyAt-outside (suc zero) (x ∷ xs) h = absurd (h (omega arith) (omega arith))
-  keyAt-outside (suc (suc p)) (x ∷ xs) h = keyAt-outside (suc p) xs (λ a b. h (omega arith) (omega arith))

@@ -3,7 +3,7 @@ use native.Mathlib.Omega.{arith}
 use lib.ListN.{length}
 use Rattle.std.proofs.shelf.Ways.{tells}
 use Rattle.chain.specs.Chains.{chained}
-use Rattle.chain.proofs.Orders.{exchanged-outside}
+use Rattle.lines.proofs.Reach.{exchanged-outside}
 use Rattle.chain.proofs.ChainLine.exchange.Needs as need
 
 pub returns-then-place-lt1 : need.returns-then-place-lt1

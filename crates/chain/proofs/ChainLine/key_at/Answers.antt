@@ -2,7 +2,7 @@ use mathlib.Core.Path.{_≡_, sym}
 use native.Mathlib.Omega.{arith}
 use lib.ListN.{length}
 use Rattle.chain.specs.Chains.{chained}
-use Rattle.chain.proofs.Orders.{keyAt-outside}
+use Rattle.lines.proofs.Reach.{keyAt-outside}
 use Rattle.chain.proofs.ChainLine.key_at.Needs as need
 
 pub returns-then-place-lt1 : need.returns-then-place-lt1

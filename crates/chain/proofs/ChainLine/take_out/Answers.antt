@@ -3,7 +3,7 @@ use native.Mathlib.Omega.{arith}
 use lib.ListN.{length}
 use Rattle.std.proofs.shelf.Ways.{tells}
 use Rattle.chain.specs.Chains.{chained}
-use Rattle.chain.proofs.Orders.{takenOut-outside}
+use Rattle.lines.proofs.Reach.{takenOut-outside}
 use Rattle.chain.proofs.ChainLine.take_out.Needs as need
 
 pub returns-then-place-lt1 : need.returns-then-place-lt1
