@@ -1,0 +1,4 @@
+pub mod Words
+pub mod Playing
+pub mod Shown
+pub mod Unsaid

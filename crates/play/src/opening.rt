@@ -1,0 +1,100 @@
+// How the bench of a script is opened.
+ghost use mathlib.Core.Path.{_≡_};
+ghost use Prim.Native.Nat.{_≤_};
+ghost use lib.ListN.{length};
+ghost use Rattle.std.specs.Options.{Cases as BySome, valueOr};
+ghost use Rattle.std.specs.Vec.{made};
+ghost use Rattle.std.specs.declared.option.Option.the-variants.{Some};
+ghost use Rattle.play.specs.declared.script.Kind.the-variants.{Codes};
+ghost use Rattle.play.specs.declared.outcome.Outcome.the-variants.{Done, Unfit};
+ghost use Rattle.play.specs.Unsaid.{unsaidLine};
+use super::outcome::Outcome;
+use super::outcome::answer;
+use super::script::Entry;
+use super::script::Kind;
+use super::script::Make;
+use super::script::Plan;
+use super::script::Term;
+use super::script::read_entry;
+use std::io;
+
+// A line of which nothing is said.
+const UNSAID: Plan = Plan {
+    make: Make::Row,
+    cells: 256,
+};
+
+// What was said of the kind of key and of the two lines.
+#[derive(Clone, Copy)]
+pub struct Opening {
+    keys: Option<Kind>,
+    house: Option<Plan>,
+    rival: Option<Plan>,
+}
+
+// Notes what is said, unless it was said before.
+fn note<T: Copy>(said: &mut Option<T>, value: T) -> Outcome
+    ensures { λ r. ⌜ BySome (now (said .entry)) ((r ≡ Done) × (now (said .exit) ≡ Some value)) (λ _. (r ≡ Unfit) × (now (said .exit) ≡ now (said .entry))) ⌝ }
+{
+    if said.is_some() {
+        return Outcome::Unfit;
+    }
+    *said = Some(value);
+    Outcome::Done
+}
+
+impl Opening {
+    // Nothing is said yet.
+    pub fn unsaid() -> Opening {
+        Opening {
+            keys: None,
+            house: None,
+            rival: None,
+        }
+    }
+
+    // Notes what an opening line says.
+    fn take(&mut self, term: Term) -> Outcome {
+        match term {
+            Term::Keys(kind) => note(&mut self.keys, kind),
+            Term::House(plan) => note(&mut self.house, plan),
+            Term::Rival(plan) => note(&mut self.rival, plan),
+        }
+    }
+
+    // Takes the opening lines in front, and gives how many they are.
+    pub fn take_lines(&mut self, rt: &LibcRuntime, lines: &[&str]) -> io::Result<usize>
+        ensures { λ r. ⌜ made r (λ n. n ≤ length (now (lines .entry))) ⌝ }
+    {
+        let heap = rt.alloc();
+        for (taken, line) in lines.iter().enumerate() {
+            let Some(Entry::Opening(term)) = read_entry(heap, line)? else {
+                return Ok(taken);
+            };
+            let outcome = self.take(term);
+            rt.println(answer(heap, line, outcome)?)?;
+        }
+        Ok(lines.len())
+    }
+
+    // The kind of key.
+    pub fn kind(self) -> Kind
+        ensures { λ r. ⌜ r ≡ valueOr (self .keys) Codes ⌝ }
+    {
+        self.keys.unwrap_or(Kind::Codes)
+    }
+
+    // The line of the house.
+    pub fn house(self) -> Plan
+        ensures { λ r. ⌜ r ≡ valueOr (self .house) unsaidLine ⌝ }
+    {
+        self.house.unwrap_or(UNSAID)
+    }
+
+    // The line of the rival.
+    pub fn rival(self) -> Plan
+        ensures { λ r. ⌜ r ≡ valueOr (self .rival) unsaidLine ⌝ }
+    {
+        self.rival.unwrap_or(UNSAID)
+    }
+}
