@@ -1,4 +1,2 @@
-mod Hex
-mod Numbers
 mod Orders
 mod Spellings

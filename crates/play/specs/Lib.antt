@@ -1,4 +1,3 @@
-pub mod Words
 pub mod Playing
 pub mod Shown
 pub mod Unsaid

@@ -6,7 +6,6 @@ mod script;
 mod seats;
 mod show;
 mod standing;
-mod words;
 
 use keys::Code;
 use keys::CodeKey;

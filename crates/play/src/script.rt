@@ -1,10 +1,10 @@
 // The script: what each of its lines says.
 ghost use Prim.Native.Nat.{_≤_};
 ghost use Rattle.std.specs.Vec.{made};
-use super::words::Fault;
-use super::words::FaultFromAlloc;
-use super::words::read_hex;
-use super::words::read_number;
+use words::Fault;
+use words::FaultFromAlloc;
+use words::read_hex;
+use words::read_number;
 use std::alloc::AllocError;
 use std::alloc::Global;
 

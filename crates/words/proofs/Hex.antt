@@ -8,7 +8,7 @@ use Rattle.std.proofs.shelf.Lists.{take-all}
 use Rattle.std.specs.Options.{mapped}
 use Rattle.std.specs.declared.option.Option.{Option}
 use Rattle.std.specs.declared.option.Option.the-variants.{Some, None}
-use Rattle.play.specs.Words.{hexByte, byteBefore, hexRead, spellingRead}
+use Rattle.words.specs.Words.{hexByte, byteBefore, hexRead, spellingRead}
 
 one-more : (front : List ℕ) (byte : ℕ) (o : Option (List ℕ)) → mapped (λ more. front ++ more) (mapped (λ rest. byte ∷ rest) o) ≡ mapped (λ more. (front ++ byte ∷ []) ++ more) o
 one-more front byte None = refl

@@ -5,8 +5,8 @@ use borrow.Author.Needs.{needs}
 use lib.ListN.{length}
 use Rattle.std.specs.Of.Vec.{vec-items}
 use Rattle.std.specs.Options.{mapped}
-use Rattle.play.proofs.Hex.{pair-read, pair-wrong, none-spelled}
-use Rattle.play.proofs.words.read_hex.Needs as need
+use Rattle.words.proofs.Hex.{pair-read, pair-wrong, none-spelled}
+use Rattle.words.proofs.read_hex.Needs as need
 
 pub returns-in-rest-hex-byte : need.returns-in-rest-hex-byte
 returns-in-rest-hex-byte c =

@@ -3,8 +3,8 @@ use mathlib.Core.List.{_++_}
 use lib.ListN.{length}
 use Rattle.std.specs.Of.Vec.{vec-items}
 use Rattle.std.specs.Options.{mapped}
-use Rattle.play.specs.Words.{hexRead}
-use Rattle.play.proofs.words.read_hex.Given as given
+use Rattle.words.specs.Words.{hexRead}
+use Rattle.words.proofs.read_hex.Given as given
 
 abbrev pub Inv-loop-rest : given.InvT-loop-rest
 Inv-loop-rest l = hexRead (l .word) ≡ mapped (λ more. vec-items (l .spelling) ++ more) (hexRead (l .rest))

@@ -6,8 +6,8 @@ use Rattle.std.proofs.shelf.Ways.{tells}
 use Rattle.std.proofs.shelf.Lists.{take-all}
 use Rattle.std.proofs.shelf.Numerals.{digit-at}
 use Rattle.std.proofs.shelf.Digits.{digits-more, value-more}
-use Rattle.play.proofs.Numbers.{digit-value, capped-more}
-use Rattle.play.proofs.words.read_number.Needs as need
+use Rattle.words.proofs.Numbers.{digit-value, capped-more}
+use Rattle.words.proofs.read_number.Needs as need
 
 pub returns-then-not-is-ascii-digit : need.returns-then-not-is-ascii-digit
 returns-then-not-is-ascii-digit c =

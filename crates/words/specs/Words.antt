@@ -10,8 +10,8 @@ use Rattle.std.specs.declared.option.Option.{Option}
 use Rattle.std.specs.declared.option.Option.the-variants.{Some, None}
 use Rattle.std.specs.declared.result.Result.{Result}
 use Rattle.std.specs.declared.result.Result.the-variants.{Ok, Err}
-use Rattle.play.specs.declared.words.Fault.{Fault}
-use Rattle.play.specs.declared.words.Fault.the-variants.{NoCall, Memory}
+use Rattle.words.specs.declared.Fault.{Fault}
+use Rattle.words.specs.declared.Fault.the-variants.{NoCall, Memory}
 
 -- the value of a hex digit, small or capital
 abbrev pub hexDigit : ℕ → Option ℕ

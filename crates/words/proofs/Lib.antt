@@ -1,0 +1,2 @@
+mod Hex
+mod Numbers
