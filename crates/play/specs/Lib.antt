@@ -1,3 +1,1 @@
 pub mod Playing
-pub mod Shown
-pub mod Unsaid

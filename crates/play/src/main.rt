@@ -1,8 +1,5 @@
 // Plays a script on a bench.
-mod opening;
-mod outcome;
 mod playing;
-mod script;
 mod seats;
 mod show;
 mod standing;
@@ -11,8 +8,8 @@ use keys::Code;
 use keys::CodeKey;
 use keys::Name;
 use keys::NameKey;
-use opening::Opening;
 use script::Kind;
+use script::Opening;
 use seats::seat_both;
 use std::io;
 

@@ -1,16 +1,14 @@
 // The report on a bench.
 ghost use mathlib.Core.Path.{_≡_};
 ghost use Prim.Native.Nat.{_+_, _*_, _≤_};
-ghost use Rattle.std.specs.Of.Vec.{vec-items};
-ghost use Rattle.std.specs.Vec.{made};
 ghost use Rattle.reckoning.specs.Twice.{Twice};
 ghost use Rattle.bench.specs.Benches.{sumsOf};
 ghost use Rattle.play.specs.Playing.{Playing};
 use bench::Ledger;
 use keys::Key;
 use lines::Orderly;
-use std::alloc::AllocError;
-use std::alloc::Global;
+use script::keys_of;
+use script::spell;
 use std::fmt;
 use std::io;
 
@@ -33,29 +31,6 @@ impl Bound {
             right: 2 * ledger.rival + ledger.paid,
         }
     }
-}
-
-// The keys of a line, in order.
-fn keys_of<K: Key, L: Orderly<K>>(heap: Global, line: &L) -> Result<Vec<K>, AllocError>
-    requires { ⌜ L·Line .sound (now line) ⌝ }
-    ensures { λ r. ⌜ made r (λ v. vec-items v ≡ L·Line .keys (now (line .entry))) ⌝ }
-{
-    let mut keys = Vec::new(heap);
-    let count = line.count();
-    for place in 0..count {
-        keys.push(line.key_at(place + 1).unwrap())?;
-    }
-    Ok(keys)
-}
-
-// The spelling of a key.
-fn spell<K: Key>(heap: Global, key: &K) -> Result<Vec<u8>, AllocError>
-    ensures { λ r. ⌜ made r (λ v. vec-items v ≡ K·Key .spelling (now (key .entry))) ⌝ }
-{
-    let mut spelling = vec![in heap; 0; K::longest_spelling()]?;
-    let len = key.write(&mut spelling).unwrap();
-    spelling.truncate(len);
-    Ok(spelling)
 }
 
 // Bytes in small hex.
@@ -93,13 +68,18 @@ pub fn report<K: Key, H: Orderly<K>, R: Orderly<K>>(
 ) -> io::Result<()>
     requires { ⌜ Playing K·Key H·Line R·Line (now house) (now rival) ledger ⌝ }
 {
-    println!(rt, "requests {}", ledger.requests)?;
-    println!(rt, "house {}", ledger.house)?;
-    println!(rt, "rival {}", ledger.rival)?;
-    println!(rt, "paid {}", ledger.paid)?;
-    println!(rt, "free {}", ledger.free)?;
-    let bound = Bound::of(ledger);
-    println!(rt, "bound {} <= {}", bound.left, bound.right)?;
+    let Ledger {
+        requests,
+        house: walked,
+        rival: followed,
+        paid,
+        free,
+    } = ledger;
+    let Bound { left, right } = Bound::of(ledger);
+    println!(
+        rt,
+        "requests {requests}\nhouse {walked}\nrival {followed}\npaid {paid}\nfree {free}\nbound {left} <= {right}"
+    )?;
     print_order(rt, "house", house)?;
     print_order(rt, "rival", rival)
 }

@@ -2,8 +2,6 @@
 ghost use mathlib.Core.Path.{_≡_};
 ghost use mathlib.Core.List.{[]};
 ghost use Rattle.play.specs.Playing.{Playing, ledgerOf};
-use super::outcome::Outcome;
-use super::script::Call;
 use bench::Closed;
 use bench::Ledger;
 use bench::Loading;
@@ -11,6 +9,8 @@ use bench::Running;
 use keys::Denial;
 use keys::Key;
 use lines::Orderly;
+use script::Call;
+use script::Outcome;
 
 #[derive(Drop)]
 pub enum Standing {

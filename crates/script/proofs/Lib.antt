@@ -1,0 +1,4 @@
+mod Hex
+mod Numbers
+mod Orders
+mod Spellings

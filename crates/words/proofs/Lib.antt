@@ -1,2 +1,0 @@
-mod Hex
-mod Numbers
