@@ -34,7 +34,7 @@ fn play_line<K: Key, H: Orderly<K>, R: Orderly<K>>(
 }
 
 // Opens a bench on two empty lines, plays the calls, and reports.
-pub fn play<K: Key, H: Orderly<K>, R: Orderly<K>>(
+pub(crate) fn play<K: Key, H: Orderly<K>, R: Orderly<K>>(
     rt: &LibcRuntime,
     house: &mut H,
     rival: &mut R,

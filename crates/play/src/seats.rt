@@ -36,7 +36,7 @@ fn free_cells<K: Key + Clone>(
 }
 
 // Makes the house, then the rival, and plays the calls.
-pub fn seat_both<K: Key + Clone>(
+pub(crate) fn seat_both<K: Key + Clone>(
     rt: &LibcRuntime,
     house: Plan,
     rival: Plan,

@@ -7,9 +7,7 @@ ghost use Rattle.play.specs.Playing.{Playing};
 use bench::Ledger;
 use keys::Key;
 use lines::Orderly;
-use script::keys_of;
-use script::spell;
-use std::fmt;
+use script::order_text;
 use std::io;
 
 // The two sides of the twice bound.
@@ -33,34 +31,16 @@ impl Bound {
     }
 }
 
-// Bytes in small hex.
-#[derive(Drop)]
-struct Hex<'a>(&'a [u8]);
-
-impl fmt::Display for Hex<'_> as HexDisplay {
-    fn fmt<W: fmt::Write>(&self, f: &mut fmt::Formatter<W>) -> fmt::Result {
-        for byte in self.0 {
-            write!(f, "{byte:02x}")?;
-        }
-        Ok(())
-    }
-}
-
+// The order of a side, as spellings in hex.
 fn print_order<K: Key, L: Orderly<K>>(rt: &LibcRuntime, side: &str, line: &L) -> io::Result<()>
     requires { ⌜ L·Line .sound (now line) ⌝ }
 {
-    let heap = rt.alloc();
-    print!(rt, "{side}-order")?;
-    for key in keys_of(heap, line)? {
-        let spelling = spell(heap, &key)?;
-        let hex = Hex(&spelling);
-        print!(rt, " {hex}")?;
-    }
-    println!(rt, "")
+    let order = order_text(rt.alloc(), line)?;
+    println!(rt, "{side}-order{order}")
 }
 
 // The numbers of a bench, the two sides of its bound, and the order of its lines.
-pub fn report<K: Key, H: Orderly<K>, R: Orderly<K>>(
+pub(crate) fn report<K: Key, H: Orderly<K>, R: Orderly<K>>(
     rt: &LibcRuntime,
     ledger: Ledger,
     house: &H,

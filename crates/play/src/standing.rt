@@ -131,7 +131,7 @@ fn make_running<K: Key, H: Orderly<K>, R: Orderly<K>>(
 
 impl Standing {
     // Opens a bench on two empty lines.
-    pub fn open<K: Key, H: Orderly<K>, R: Orderly<K>>(house: &H, rival: &R) -> Standing
+    pub(crate) fn open<K: Key, H: Orderly<K>, R: Orderly<K>>(house: &H, rival: &R) -> Standing
         requires sound { ⌜ H·Line .sound (now house) ⌝ ∗ ⌜ R·Line .sound (now rival) ⌝ }
         requires empty { ⌜ H·Line .keys (now house) ≡ [] ⌝ ∗ ⌜ R·Line .keys (now rival) ≡ [] ⌝ }
         ensures { λ r. ⌜ Playing K·Key H·Line R·Line (now (house .entry)) (now (rival .entry)) (ledgerOf r) ⌝ }
@@ -140,7 +140,7 @@ impl Standing {
     }
 
     // Makes a call, if it fits, and gives the standing after it.
-    pub fn make<K: Key, H: Orderly<K>, R: Orderly<K>>(
+    pub(crate) fn make<K: Key, H: Orderly<K>, R: Orderly<K>>(
         self,
         house: &mut H,
         rival: &mut R,
@@ -157,7 +157,7 @@ impl Standing {
     }
 
     // The numbers so far.
-    pub fn ledger(&self) -> Ledger
+    pub(crate) fn ledger(&self) -> Ledger
         ensures { λ r. ⌜ r ≡ ledgerOf (now (self .entry)) ⌝ }
     {
         match self {

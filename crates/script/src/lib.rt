@@ -17,4 +17,5 @@ pub use outcome::Outcome;
 pub use outcome::OutcomeDisplay;
 pub use outcome::answer;
 pub use spelled::keys_of;
+pub use spelled::order_text;
 pub use spelled::spell;

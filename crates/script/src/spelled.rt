@@ -6,6 +6,7 @@ use keys::Key;
 use lines::Orderly;
 use std::alloc::AllocError;
 use std::alloc::Global;
+use std::fmt;
 
 // The keys of a line, in order.
 pub fn keys_of<K: Key, L: Orderly<K>>(heap: Global, line: &L) -> Result<Vec<K>, AllocError>
@@ -28,4 +29,31 @@ pub fn spell<K: Key>(heap: Global, key: &K) -> Result<Vec<u8>, AllocError>
     let len = key.write(&mut spelling).unwrap();
     spelling.truncate(len);
     Ok(spelling)
+}
+
+// Bytes in small hex.
+#[derive(Drop)]
+struct Hex<'a>(&'a [u8]);
+
+impl fmt::Display for Hex<'_> as HexDisplay {
+    fn fmt<W: fmt::Write>(&self, f: &mut fmt::Formatter<W>) -> fmt::Result {
+        for byte in self.0 {
+            write!(f, "{byte:02x}")?;
+        }
+        Ok(())
+    }
+}
+
+// The keys of a line in order, each as its spelling in small hex behind a space.
+pub fn order_text<K: Key, L: Orderly<K>>(heap: Global, line: &L) -> Result<String, AllocError>
+    requires { ⌜ L·Line .sound (now line) ⌝ }
+{
+    let mut text = String::new(heap);
+    for key in keys_of(heap, line)? {
+        let spelling = spell(heap, &key)?;
+        let hex = Hex(&spelling);
+        let part = format!(heap, " {hex}")?;
+        text.push_str(&part)?;
+    }
+    Ok(text)
 }
