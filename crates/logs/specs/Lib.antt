@@ -1,0 +1,4 @@
+pub mod Framing
+pub mod Records
+pub mod Pages
+pub mod Plans
