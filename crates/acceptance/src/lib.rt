@@ -1,4 +1,6 @@
 // What a page log and a plan log spell together, what is judged of it, and which plans are accepted: definitions and theorems.
+#![tactic(auto)]
+
 ghost use Rattle.acceptance.specs.Accepted.{AcceptsThem};
 
 use keys::Key;

@@ -1,4 +1,6 @@
 // The bench: a standing and two lines, house and rival, whose walking it counts.
+#![tactic(auto)]
+
 mod admit;
 mod charge;
 mod effect;

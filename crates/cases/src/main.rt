@@ -1,6 +1,8 @@
 // Runs a table of cases from standard input: to a line a page log and a plan log in hex, `-` for no bytes, and the best figure that
 // is handed in, or `none`. For each case it prints on one line the text for its two logs, with `_` for a space and `;` for byte 10.
 // In the stored table the first 240 cases and their texts come from an independent implementation.
+#![tactic(auto)]
+
 mod case;
 mod one_line;
 

@@ -1,4 +1,6 @@
 // Chains: lines of linked cells.
+#![tactic(auto)]
+
 ghost use Rattle.std.specs.Prelude.{◌≡◌, ℕ, ◌+◌, ◌-◌, ◌<◌, ◌≤◌, List, [], ◌∷◌, ◌++◌, map, length, None, Ok, slice_index, slice_set};
 ghost use Rattle.lines.specs.Orders.{key_at, taken_out, exchanged};
 ghost use Rattle.lines.specs.Places.{place_of};

@@ -1,4 +1,6 @@
 // Denials, and kinds of key: the trait `Key`, with names and codes.
+#![tactic(auto)]
+
 pub mod code;
 pub mod denial;
 pub mod key;

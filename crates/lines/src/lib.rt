@@ -1,4 +1,6 @@
 // Lines: ordered lists of different keys.
+#![tactic(auto)]
+
 ghost use Rattle.std.specs.Prelude.{◌≡◌, ℕ, ◌≤◌, Bool, List, map, length};
 ghost use Rattle.lines.specs.Orders.{allowed, key_at, is_place, taken_out, may_exchange, exchanged, may_bring_forward, brought_forward};
 ghost use Rattle.lines.specs.Places.{place_of, appended, Different};

@@ -1,4 +1,6 @@
 // Readers of page logs and plan logs, which borrow a log's bytes and give one record after another.
+#![tactic(auto)]
+
 pub mod fault;
 mod framing;
 pub mod pages;

@@ -1,4 +1,6 @@
 // What the program prints: two logs in, the report or the fault line out.
+#![tactic(auto)]
+
 mod judged;
 pub mod output;
 

@@ -1,4 +1,6 @@
 // Judges the plan log `plan.log` on the page log `page.log` in the current folder, and prints the report or the fault line.
+#![tactic(auto)]
+
 use output::write_output;
 use std::fs::File;
 use std::io;

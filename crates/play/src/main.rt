@@ -1,4 +1,6 @@
 // Plays a script on a bench.
+#![tactic(auto)]
+
 mod playing;
 mod seats;
 mod show;

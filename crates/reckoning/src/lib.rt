@@ -1,4 +1,6 @@
 // The reckoning of a bench, as definitions, and the theorems on it. Its functions only carry these theorems.
+#![tactic(auto)]
+
 ghost use Rattle.reckoning.specs.Floor.{FloorLaw};
 ghost use Rattle.reckoning.specs.Twice.{TwiceLaw};
 ghost use Rattle.reckoning.specs.Runs.{WorkedRuns};

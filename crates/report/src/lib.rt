@@ -1,4 +1,6 @@
 // Reports of ledgers and fault lines, as text in a caller's buffer.
+#![tactic(auto)]
+
 mod compose;
 mod decimal;
 pub mod fault;

@@ -1,4 +1,6 @@
 // A row: a line that keeps its keys in order in cells that its user provides.
+#![tactic(auto)]
+
 ghost use Rattle.std.specs.Prelude.{◌≡◌, ◌+◌, ◌<◌, ◌≤◌, [], ◌∷◌, ◌++◌, map, length, take, ◌==◌};
 ghost use Rattle.lines.specs.Orders.{key_at, is_place, taken_out, may_exchange, exchanged};
 ghost use Rattle.lines.specs.Places.{place_of};

@@ -1,4 +1,6 @@
 // Bench scripts: their words, what a line says, and what is said back.
+#![tactic(auto)]
+
 pub mod entry;
 pub mod opening;
 pub mod outcome;

@@ -1,4 +1,6 @@
 // One turn of a page and a plan: a page record with its key read, the plan's exchanges, and the request with its goal.
+#![tactic(auto)]
+
 pub mod blame;
 pub mod entry;
 pub mod plays;

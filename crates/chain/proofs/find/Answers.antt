@@ -13,8 +13,8 @@ loop-passed-init g c =
 inside : goal.bounds-cells-here
 inside g c = walk-there c.args.cells.now c.loop-passed.here (c.args.count - c.loop-passed.passed) (c.args.count - (c.loop-passed.passed + 1)) (omega arith) c.loop-passed.invariant.0
 
-pub offset-bounds-cells-here : goal.offset-bounds-cells-here
-offset-bounds-cells-here g c = let l : c.loop-passed.here < length c.args.cells.now = inside g c in omega arith
+pub offset_bounds-cells-here : goal.offset_bounds-cells-here
+offset_bounds-cells-here g c = let l : c.loop-passed.here < length c.args.cells.now = inside g c in omega arith
 
 pub bounds-cells-here : goal.bounds-cells-here
 bounds-cells-here = inside

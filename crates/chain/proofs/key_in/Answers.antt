@@ -14,8 +14,8 @@ inside : goal.bounds-cells-here
 inside g c =
     beyond-there c.args.cells.now (c.args.place - 1) c.args.count c.args.head c.walk-here.result (omega arith) (runs_to c.requires.sound c.args.count c.requires.sound.within) c.walk-here.ensures
 
-pub offset-bounds-cells-here : goal.offset-bounds-cells-here
-offset-bounds-cells-here g c = let l : c.walk-here.result < length c.args.cells.now = inside g c in omega arith
+pub offset_bounds-cells-here : goal.offset_bounds-cells-here
+offset_bounds-cells-here g c = let l : c.walk-here.result < length c.args.cells.now = inside g c in omega arith
 
 pub bounds-cells-here : goal.bounds-cells-here
 bounds-cells-here = inside

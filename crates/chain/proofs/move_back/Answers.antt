@@ -10,8 +10,8 @@ walk-moved-requires g c = runs-before c.args.place c.args.by c.requires.whole c.
 inside : goal.bounds-cells-moved
 inside g c = moved-there c.args.place c.args.by c.requires.whole c.requires.range c.walk-moved.ensures
 
-pub offset-bounds-cells-moved : goal.offset-bounds-cells-moved
-offset-bounds-cells-moved g c = let l : c.walk-moved.result < length c.args.cells.now = inside g c in search rules
+pub offset_bounds-cells-moved : goal.offset_bounds-cells-moved
+offset_bounds-cells-moved g c = let l : c.walk-moved.result < length c.args.cells.now = inside g c in search rules
 
 pub bounds-cells-moved : goal.bounds-cells-moved
 bounds-cells-moved = inside

@@ -5,9 +5,9 @@ use Rattle.chain.proofs.turn.Goals as goal
 
 pub returns : goal.returns
 returns g c =
-    let others = c.move-back.new.cells in
+    let others = c.move_back.new.cells in
     record {
-      sound = sound-exchanged c.requires.sound others c.move-back.result c.args.place 1 c.move-back.ensures.keys c.move-back.ensures.way refl (omega arith);
-      room = same-room c.args.cells.now others c.move-back.ensures.keys;
-      keys = chained-exchanged c.requires.sound others c.move-back.result c.args.place 1 c.move-back.ensures.keys c.move-back.ensures.way refl (omega arith);
+      sound = sound-exchanged c.requires.sound others c.move_back.result c.args.place 1 c.move_back.ensures.keys c.move_back.ensures.way refl (omega arith);
+      room = same-room c.args.cells.now others c.move_back.ensures.keys;
+      keys = chained-exchanged c.requires.sound others c.move_back.result c.args.place 1 c.move_back.ensures.keys c.move_back.ensures.way refl (omega arith);
     }

@@ -18,10 +18,10 @@ returns-then-place-count g c =
 
 pub returns : goal.returns
 returns g c =
-    let others = c.move-back.new.cells in
+    let others = c.move_back.new.cells in
     let by = c.args.count - c.args.place in
     record {
-      sound = sound-taken c.requires.sound others c.move-back.result c.args.place by c.move-back.ensures.keys c.move-back.ensures.way (c.args.count - 1) (omega arith) (omega arith) (omega arith);
-      room = same-room c.args.cells.now others c.move-back.ensures.keys;
-      keys = chained-taken c.requires.sound others c.move-back.result c.args.place by c.move-back.ensures.keys c.move-back.ensures.way (c.args.count - 1) (omega arith) (omega arith) (omega arith);
+      sound = sound-taken c.requires.sound others c.move_back.result c.args.place by c.move_back.ensures.keys c.move_back.ensures.way (c.args.count - 1) (omega arith) (omega arith) (omega arith);
+      room = same-room c.args.cells.now others c.move_back.ensures.keys;
+      keys = chained-taken c.requires.sound others c.move_back.result c.args.place by c.move_back.ensures.keys c.move_back.ensures.way (c.args.count - 1) (omega arith) (omega arith) (omega arith);
     }

@@ -5,8 +5,8 @@ use Rattle.chain.proofs.walk.Goals as goal
 inside : goal.bounds-cells-here
 inside g c = walk-there c.args.cells.now c.loop-step.here (c.args.steps - c.loop-step.-step) (c.args.steps - (c.loop-step.-step + 1)) (omega arith) c.loop-step.invariant.0
 
-pub offset-bounds-cells-here : goal.offset-bounds-cells-here
-offset-bounds-cells-here g c = let l : c.loop-step.here < length c.args.cells.now = inside g c in omega arith
+pub offset_bounds-cells-here : goal.offset_bounds-cells-here
+offset_bounds-cells-here g c = let l : c.loop-step.here < length c.args.cells.now = inside g c in omega arith
 
 pub bounds-cells-here : goal.bounds-cells-here
 bounds-cells-here = inside

@@ -3,8 +3,8 @@ use Rattle.std.proofs.lemmas.Bool.Decides.{nat_tests}
 use Rattle.lines.proofs.Reach.{key_at-outside, key_at-within}
 use Rattle.row.proofs.pick.Goals as goal
 
-pub returns-then-not-is-place : goal.returns-then-not-is-place
-returns-then-not-is-place g c = sym (key_at-outside c.args.place c.args.keys.now (λ a b. grind (arith, nat_tests)))
+pub returns-then-not-is_place : goal.returns-then-not-is_place
+returns-then-not-is_place g c = sym (key_at-outside c.args.place c.args.keys.now (λ a b. grind (arith, nat_tests)))
 
 pub returns : goal.returns
 returns g c =

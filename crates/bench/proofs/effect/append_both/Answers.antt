@@ -2,10 +2,10 @@ use Rattle.std.proofs.Common.{sym, ap, ◌∙◌}
 use Rattle.bench.proofs.Fitting.{fits, ok-not-err}
 use Rattle.bench.proofs.effect.append_both.Goals as goal
 
-pub returns-in-err-append : goal.returns-in-err-append
-returns-in-err-append g c =
+pub returns-in_err-append : goal.returns-in_err-append
+returns-in_err-append g c =
     let ok = sym (fits g.K.Key g.H.Line g.R.Line c.args.key c.args.house.now c.args.rival.now c.requires.fits).0 ∙ c.append.ensures.keys in
-    absurd (ok-not-err (sym (ap (λ p. p.0) ok)) c.in-err-append.was)
+    absurd (ok-not-err (sym (ap (λ p. p.0) ok)) c.in_err-append.was)
 
 pub returns : goal.returns
 returns g c =

@@ -12,44 +12,44 @@ use Rattle.acceptance.specs.Judgement.{played}
 use Rattle.judge.proofs.Verdict.{said-err, said_ok, bench-opened, bench-denied, script-read, judged-header, judged-full, judged-played}
 use Rattle.judge.proofs.judging.judge.Goals as goal
 
-pub returns-in-err-bench : goal.returns-in-err-bench
-returns-in-err-bench g c =
+pub returns-in_err-bench : goal.returns-in_err-bench
+returns-in_err-bench g c =
     let p = err_from_is_err_and c.from-residual.result c.from-residual.ensures.1 in
-    let said = said-err Page 0 c.open.result p.0 (sym c.said-of.ensures ∙ c.in-err-bench.was ∙ ap Err (sym p.2)) in
+    let said = said-err Page 0 c.open.result p.0 (sym c.said_of.ensures ∙ c.in_err-bench.was ∙ ap Err (sym p.2)) in
     let denied = bench-denied g.K.Key g.H.Line g.R.Line c.args.house.now c.args.rival.now c.open.result said.0 c.open.ensures said.1 in
     judged-full g.K.Key g.H.Line g.R.Line g.met.K.Key.decides c.args.page.now c.args.plan.now c.args.house.now c.args.rival.now c.requires.0 c.requires.1 denied.0
     (p.1 ∙ ap Err (said.2 ∙ ap (fault_on Page 0) denied.1))
 
-pub returns-in-err-page : goal.returns-in-err-page
-returns-in-err-page g c =
-    let p = err_from_is_err_and c.from-residual-in-err-page.result c.from-residual-in-err-page.ensures.1 in
-    let ok = bench-opened g.K.Key g.H.Line g.R.Line c.args.house.now c.args.rival.now c.open.result c.in-ok-bench.bench c.open.ensures (said_ok Page 0 c.open.result _ (sym c.said-of.ensures ∙ c.in-ok-bench.was)) in
-    let said = said-err Page 0 c.open-2.result p.0 (sym c.said-of-2.ensures ∙ c.in-err-page.was ∙ ap Err (sym p.2)) in
+pub returns-in_err-page : goal.returns-in_err-page
+returns-in_err-page g c =
+    let p = err_from_is_err_and c.from-residual-in_err-page.result c.from-residual-in_err-page.ensures.1 in
+    let ok = bench-opened g.K.Key g.H.Line g.R.Line c.args.house.now c.args.rival.now c.open.result c.in_ok-bench.bench c.open.ensures (said_ok Page 0 c.open.result _ (sym c.said_of.ensures ∙ c.in_ok-bench.was)) in
+    let said = said-err Page 0 c.open-2.result p.0 (sym c.said_of-2.ensures ∙ c.in_err-page.was ∙ ap Err (sym p.2)) in
     let head = sym c.open-2.ensures.left ∙ ap (meant (λ (reader : PageReader). left_of reader.cursor)) said.1 in
-    judged-header g.K.Key g.H.Line g.R.Line g.met.K.Key.decides c.args.page.now c.args.plan.now c.args.house.now c.args.rival.now c.in-ok-bench.bench.ledger (fault_on Page 0 said.0) c.requires.0 c.requires.1 ok.0 ok.1
+    judged-header g.K.Key g.H.Line g.R.Line g.met.K.Key.decides c.args.page.now c.args.plan.now c.args.house.now c.args.rival.now c.in_ok-bench.bench.ledger (fault_on Page 0 said.0) c.requires.0 c.requires.1 ok.0 ok.1
     (ap (λ head. played g.K.Key.equal (limits_of g.K.Key g.H.Line g.R.Line c.args.house.now c.args.rival.now) empty (headed g.K.Key.reading head (versioned c.args.plan.now))) head)
     (p.1 ∙ ap Err said.2)
 
-pub returns-in-err-plan : goal.returns-in-err-plan
-returns-in-err-plan g c =
-    let p = err_from_is_err_and c.from-residual-in-err-plan.result c.from-residual-in-err-plan.ensures.1 in
-    let ok = bench-opened g.K.Key g.H.Line g.R.Line c.args.house.now c.args.rival.now c.open.result c.in-ok-bench.bench c.open.ensures (said_ok Page 0 c.open.result _ (sym c.said-of.ensures ∙ c.in-ok-bench.was)) in
-    let read = said_ok Page 0 c.open-2.result c.in-ok-page.page (sym c.said-of-2.ensures ∙ c.in-ok-page.was) in
-    let said = said-err Plan 0 c.open-3.result p.0 (sym c.said-of-3.ensures ∙ c.in-err-plan.was ∙ ap Err (sym p.2)) in
+pub returns-in_err-plan : goal.returns-in_err-plan
+returns-in_err-plan g c =
+    let p = err_from_is_err_and c.from-residual-in_err-plan.result c.from-residual-in_err-plan.ensures.1 in
+    let ok = bench-opened g.K.Key g.H.Line g.R.Line c.args.house.now c.args.rival.now c.open.result c.in_ok-bench.bench c.open.ensures (said_ok Page 0 c.open.result _ (sym c.said_of.ensures ∙ c.in_ok-bench.was)) in
+    let read = said_ok Page 0 c.open-2.result c.in_ok-page.page (sym c.said_of-2.ensures ∙ c.in_ok-page.was) in
+    let said = said-err Plan 0 c.open-3.result p.0 (sym c.said_of-3.ensures ∙ c.in_err-plan.was ∙ ap Err (sym p.2)) in
     let page = sym c.open-2.ensures.left ∙ ap (meant (λ (reader : PageReader). left_of reader.cursor)) read in
     let plan = sym c.open-3.ensures.left ∙ ap (meant (λ (reader : PlanReader). left_of reader.cursor)) said.1 in
     let play = played g.K.Key.equal (limits_of g.K.Key g.H.Line g.R.Line c.args.house.now c.args.rival.now) empty in
-    judged-header g.K.Key g.H.Line g.R.Line g.met.K.Key.decides c.args.page.now c.args.plan.now c.args.house.now c.args.rival.now c.in-ok-bench.bench.ledger (fault_on Plan 0 said.0) c.requires.0 c.requires.1 ok.0 ok.1
-    (ap (λ head. play (headed g.K.Key.reading head (versioned c.args.plan.now))) page ∙ ap (λ head. play (headed g.K.Key.reading (Ok (left_of c.in-ok-page.page.cursor)) head)) plan)
+    judged-header g.K.Key g.H.Line g.R.Line g.met.K.Key.decides c.args.page.now c.args.plan.now c.args.house.now c.args.rival.now c.in_ok-bench.bench.ledger (fault_on Plan 0 said.0) c.requires.0 c.requires.1 ok.0 ok.1
+    (ap (λ head. play (headed g.K.Key.reading head (versioned c.args.plan.now))) page ∙ ap (λ head. play (headed g.K.Key.reading (Ok (left_of c.in_ok-page.page.cursor)) head)) plan)
     (p.1 ∙ ap Err said.2)
 
 pub returns : goal.returns
 returns g c =
-    let ok = bench-opened g.K.Key g.H.Line g.R.Line c.args.house.now c.args.rival.now c.open.result c.in-ok-bench.bench c.open.ensures (said_ok Page 0 c.open.result _ (sym c.said-of.ensures ∙ c.in-ok-bench.was)) in
-    let read = said_ok Page 0 c.open-2.result c.in-ok-page.page (sym c.said-of-2.ensures ∙ c.in-ok-page.was) in
-    let read' = said_ok Plan 0 c.open-3.result c.in-ok-plan.plan (sym c.said-of-3.ensures ∙ c.in-ok-plan.was) in
+    let ok = bench-opened g.K.Key g.H.Line g.R.Line c.args.house.now c.args.rival.now c.open.result c.in_ok-bench.bench c.open.ensures (said_ok Page 0 c.open.result _ (sym c.said_of.ensures ∙ c.in_ok-bench.was)) in
+    let read = said_ok Page 0 c.open-2.result c.in_ok-page.page (sym c.said_of-2.ensures ∙ c.in_ok-page.was) in
+    let read' = said_ok Plan 0 c.open-3.result c.in_ok-plan.plan (sym c.said_of-3.ensures ∙ c.in_ok-plan.was) in
     let fresh = IfOk-at_ok (λ (reader : PageReader). (reader.requested ≡ false) × (passed_of reader.cursor ≡ 0)) read c.open-2.ensures.fresh in
     let page = sym c.open-2.ensures.left ∙ ap (meant (λ (reader : PageReader). left_of reader.cursor)) read in
     let plan = sym c.open-3.ensures.left ∙ ap (meant (λ (reader : PlanReader). left_of reader.cursor)) read' in
-    judged-played g.K.Key g.H.Line g.R.Line c.args.house.now c.args.rival.now g.met.K.Key.decides c.args.page.now c.args.plan.now c.in-ok-bench.bench.ledger c.in-ok-page.page c.in-ok-plan.plan c.play-logs.result c.play-logs.new.house c.play-logs.new.rival
-    ok.0 ok.1 (script-read g.K.Key g.H.Line g.R.Line c.args.house.now c.args.rival.now c.args.page.now c.args.plan.now c.in-ok-page.page c.in-ok-plan.plan page fresh.0 fresh.1 plan) c.play-logs.ensures
+    judged-played g.K.Key g.H.Line g.R.Line c.args.house.now c.args.rival.now g.met.K.Key.decides c.args.page.now c.args.plan.now c.in_ok-bench.bench.ledger c.in_ok-page.page c.in_ok-plan.plan c.play_logs.result c.play_logs.new.house c.play_logs.new.rival
+    ok.0 ok.1 (script-read g.K.Key g.H.Line g.R.Line c.args.house.now c.args.rival.now c.args.page.now c.args.plan.now c.in_ok-page.page c.in_ok-plan.plan page fresh.0 fresh.1 plan) c.play_logs.ensures

@@ -4,10 +4,10 @@ use Rattle.lines.specs.Orders.{allowed, exchanged, may_bring_forward, brought_fo
 use Rattle.lines.proofs.Forward.{forward-range, length_exchanged, forward-denied, forward-stays, forward-step}
 use Rattle.lines.proofs.Line.bring_forward.Goals as goal
 
-pub returns-then-not-may-bring-forward : goal.returns-then-not-may-bring-forward
-returns-then-not-may-bring-forward g c =
+pub returns-then-not-may_bring_forward : goal.returns-then-not-may_bring_forward
+returns-then-not-may_bring_forward g c =
     let xs = g.Self.Line.keys c.args.self.now in
-    let not : may_bring_forward c.args.from c.args.to (length xs) ≡ false = ap (may_bring_forward c.args.from c.args.to) (sym c.count.ensures) ∙ sym c.may-bring-forward.ensures ∙ c.if-not-may-bring-forward.true in
+    let not : may_bring_forward c.args.from c.args.to (length xs) ≡ false = ap (may_bring_forward c.args.from c.args.to) (sym c.count.ensures) ∙ sym c.may_bring_forward.ensures ∙ c.if-not-may_bring_forward.true in
     record {
       sound = search rules;
       limit = search rules;
@@ -18,7 +18,7 @@ returns-then-not-may-bring-forward g c =
 pub loop-place-init : goal.loop-place-init
 loop-place-init g c =
     let xs = g.Self.Line.keys c.args.self.now in
-    let may : may_bring_forward c.args.from c.args.to (length xs) ≡ true = ap (may_bring_forward c.args.from c.args.to) (sym c.count.ensures) ∙ sym c.may-bring-forward.ensures ∙ c.if-not-may-bring-forward.false in
+    let may : may_bring_forward c.args.from c.args.to (length xs) ≡ true = ap (may_bring_forward c.args.from c.args.to) (sym c.count.ensures) ∙ sym c.may_bring_forward.ensures ∙ c.if-not-may_bring_forward.false in
     let range = forward-range c.args.from c.args.to (length xs) may in
     (may, range.1, omega arith, c.requires, refl, refl, sym (forward-stays c.args.from xs range.2))
 
@@ -42,11 +42,11 @@ loop-place-preserved g c =
       c.exchange.ensures.keys ∙ ap (exchanged (n - 1)) inv.6 ∙ rw again at step,
     )
 
-pub returns-in-err-exchange : goal.returns-in-err-exchange
-returns-in-err-exchange g c =
+pub returns-in_err-exchange : goal.returns-in_err-exchange
+returns-in_err-exchange g c =
     let range = forward-range c.args.from c.args.to (length (g.Self.Line.keys c.args.self.now)) c.loop-place.invariant.0 in
     let n = c.loop-place.invariant.5 in
-    let was = c.in-err-exchange.was in
+    let was = c.in_err-exchange.was in
     let gives = c.exchange.ensures.gives in
     let z : ◌≡◌ {A = ℕ} 0 1 = grind (arith, nat_tests) in
     absurd (omega arith)

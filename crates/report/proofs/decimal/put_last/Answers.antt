@@ -4,8 +4,8 @@ use Rattle.std.proofs.lemmas.List.{length_push}
 use Rattle.report.proofs.Digits.{ended-last}
 use Rattle.report.proofs.decimal.put_last.Goals as goal
 
-pub overflow-sub-buffer : goal.overflow-sub-buffer
-overflow-sub-buffer c = omega (arith, decimal_nonempty c.args.number (omega arith))
+pub overflow_sub-buffer : goal.overflow_sub-buffer
+overflow_sub-buffer c = omega (arith, decimal_nonempty c.args.number (omega arith))
 
 pub bounds-buffer-end : goal.bounds-buffer-end
 bounds-buffer-end c = omega (arith, decimal_nonempty c.args.number (omega arith))

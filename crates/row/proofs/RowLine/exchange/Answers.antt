@@ -7,8 +7,8 @@ use Rattle.row.specs.Rows.{row_keys}
 use Rattle.row.proofs.Cells.{length-keys, take-exchanged}
 use Rattle.row.proofs.RowLine.exchange.Goals as goal
 
-pub returns-then-not-has-next : goal.returns-then-not-has-next
-returns-then-not-has-next g c =
+pub returns-then-not-has_next : goal.returns-then-not-has_next
+returns-then-not-has_next g c =
     let row = c.args.self.now in
     let n = length-keys row c.requires.0 in record {
       sound = search rules;
@@ -22,8 +22,8 @@ returns g c =
     let row = c.args.self.now in
     let n = length-keys row c.requires.0 in
     let high : c.args.place < row.count = grind (arith, nat_tests) in
-    let keys : take row.count c.swap-next.new.cells ≡ exchanged c.args.place (row_keys row) =
-    ap (take row.count) c.swap-next.ensures ∙ take-exchanged row.count c.args.place row.cells.now high in
+    let keys : take row.count c.swap_next.new.cells ≡ exchanged c.args.place (row_keys row) =
+    ap (take row.count) c.swap_next.ensures ∙ take-exchanged row.count c.args.place row.cells.now high in
     record {
       sound = (omega arith, rw keys (different-exchanged g.K.Key.equal g.K.Key.value c.args.place (row_keys row) c.requires.1));
       limit = omega arith;

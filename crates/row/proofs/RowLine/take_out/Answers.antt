@@ -7,8 +7,8 @@ use Rattle.row.specs.Rows.{row_keys}
 use Rattle.row.proofs.Cells.{length-keys, closed-up}
 use Rattle.row.proofs.RowLine.take_out.Goals as goal
 
-pub returns-then-not-is-place : goal.returns-then-not-is-place
-returns-then-not-is-place g c =
+pub returns-then-not-is_place : goal.returns-then-not-is_place
+returns-then-not-is_place g c =
     let row = c.args.self.now in
     let n = length-keys row c.requires.0 in record {
       sound = search rules;
@@ -23,8 +23,8 @@ returns g c =
     let n = length-keys row c.requires.0 in
     let low : 1 ≤ c.args.place = grind (arith, nat_tests) in
     let high : c.args.place ≤ row.count = grind (arith, nat_tests) in
-    let keys : take (row.count - 1) c.close-up.new.cells ≡ taken_out c.args.place (row_keys row) =
-    closed-up row.count c.args.place row.cells.now c.close-up.new.cells low high c.close-up.ensures in
+    let keys : take (row.count - 1) c.close_up.new.cells ≡ taken_out c.args.place (row_keys row) =
+    closed-up row.count c.args.place row.cells.now c.close_up.new.cells low high c.close_up.ensures in
     record {
       sound = (omega arith, rw keys (different-taken_out g.K.Key.equal g.K.Key.value c.args.place (row_keys row) c.requires.1));
       limit = omega arith;

@@ -8,30 +8,30 @@ use Rattle.turns.specs.Onward.{page_left, entry_value}
 use Rattle.turns.proofs.Reading.{page-read, valued-ok, valued-err, broken-read}
 use Rattle.turns.proofs.entry.next_entry.Goals as goal
 
-pub returns-in-err-given : goal.returns-in-err-given
-returns-in-err-given g c =
+pub returns-in_err-given : goal.returns-in_err-given
+returns-in_err-given g c =
     let p = err_from_is_err_and c.from-residual.result c.from-residual.ensures.1 in
     let all = page-read g.K.Key c.args.page.now c.next.new.self c.next.result c.next.ensures.read c.next.ensures.requested in
-    let was = c.in-err-given.was ∙ ap Err (sym p.2) in
+    let was = c.in_err-given.was ∙ ap Err (sym p.2) in
     let both = broken-read g.K.Key c.args.page.now c.next.new.self p.0 p.1 (all ∙ ap (λ a. page_by g.K.Key.reading (valued entry_of a) (page_left g.K.Key c.next.new.self)) was) in
     record { read = both.0; advanced = both.1 }
 
-pub returns-in-default : goal.returns-in-default
-returns-in-default g c =
+pub returns-in_default : goal.returns-in_default
+returns-in_default g c =
     let all = page-read g.K.Key c.args.page.now c.next.new.self c.next.result c.next.ensures.read c.next.ensures.requested in
-    let was = c.in-ok-given.was ∙ ap Ok c.in-default.is in
+    let was = c.in_ok-given.was ∙ ap Ok c.in_default.is in
     record {
       read = all ∙ ap (λ a. page_by g.K.Key.reading (valued entry_of a) (page_left g.K.Key c.next.new.self)) was;
       advanced = omega (arith, read-ended (page_entry g.K.Key.reading c.args.page.now.requested) (left_of c.args.page.now.cursor) (left_of c.next.new.self.cursor) (c.next.ensures.read ∙ ap (λ a. (valued entry_of a, left_of c.next.new.self.cursor)) was));
     }
 
-pub returns-in-err-entry-of : goal.returns-in-err-entry-of
-returns-in-err-entry-of g c =
-    let p = err_from_is_err_and c.from-residual-in-err-entry-of.result c.from-residual-in-err-entry-of.ensures.1 in
+pub returns-in_err-entry_of : goal.returns-in_err-entry_of
+returns-in_err-entry_of g c =
+    let p = err_from_is_err_and c.from-residual-in_err-entry_of.result c.from-residual-in_err-entry_of.ensures.1 in
     let all = page-read g.K.Key c.args.page.now c.next.new.self c.next.result c.next.ensures.read c.next.ensures.requested in
-    let was = c.in-ok-given.was ∙ ap Ok c.in-Some.is in
+    let was = c.in_ok-given.was ∙ ap Ok c.in-Some.is in
     let entry = entry_of c.in-Some.given in
-    let denied = sym c.entry-of.ensures ∙ ap (meant (entry_value g.K.Key)) (c.in-err-entry-of.was ∙ ap Err (sym p.2)) in
+    let denied = sym c.entry_of.ensures ∙ ap (meant (entry_value g.K.Key)) (c.in_err-entry_of.was ∙ ap Err (sym p.2)) in
     let broken = valued-err g.K.Key entry (g.K.Key.reading (key_of entry)) p.0 (page_left g.K.Key c.next.new.self) denied in
     let both = broken-read g.K.Key c.args.page.now c.next.new.self p.0 p.1 (all ∙ ap (λ a. page_by g.K.Key.reading (valued entry_of a) (page_left g.K.Key c.next.new.self)) was ∙ broken) in
     record { read = both.0; advanced = both.1 }
@@ -39,10 +39,10 @@ returns-in-err-entry-of g c =
 pub returns : goal.returns
 returns g c =
     let all = page-read g.K.Key c.args.page.now c.next.new.self c.next.result c.next.ensures.read c.next.ensures.requested in
-    let was = c.in-ok-given.was ∙ ap Ok c.in-Some.is in
+    let was = c.in_ok-given.was ∙ ap Ok c.in-Some.is in
     let entry = entry_of c.in-Some.given in
-    let given = sym c.entry-of.ensures ∙ ap (meant (entry_value g.K.Key)) c.in-ok-entry-of.was in
-    let whole = valued-ok g.K.Key entry (g.K.Key.reading (key_of entry)) (entry_value g.K.Key c.in-ok-entry-of.field-0) (page_left g.K.Key c.next.new.self) given in
+    let given = sym c.entry_of.ensures ∙ ap (meant (entry_value g.K.Key)) c.in_ok-entry_of.was in
+    let whole = valued-ok g.K.Key entry (g.K.Key.reading (key_of entry)) (entry_value g.K.Key c.in_ok-entry_of.field-0) (page_left g.K.Key c.next.new.self) given in
     record {
       read = all ∙ ap (λ a. page_by g.K.Key.reading (valued entry_of a) (page_left g.K.Key c.next.new.self)) was ∙ whole;
       advanced = (

@@ -6,42 +6,42 @@ use Rattle.turns.proofs.Going.{goes_on, so, faulted}
 use Rattle.turns.proofs.Asking.{moving, taken-fewer, move_taken, exchange-made}
 use Rattle.turns.proofs.plays.play_exchanges.Goals as goal
 
-pub returns-in-err-goal : goal.returns-in-err-goal
-returns-in-err-goal g c = λ asked page onward.
+pub returns-in_err-goal : goal.returns-in_err-goal
+returns-in_err-goal g c = λ asked page onward.
     let p = err_from_is_err_and c.from-residual.result c.from-residual.ensures.1 in
-    let was = c.in-err-goal.was ∙ ap Err (sym p.2) in
-    let next = move_taken asked page onward c.loop-goal.plan c.next-move.new.plan c.next-move.result c.next-move.ensures in
+    let was = c.in_err-goal.was ∙ ap Err (sym p.2) in
+    let next = move_taken asked page onward c.loop-goal.plan c.next_move.new.plan c.next_move.result c.next_move.ensures in
     so g.K.Key g.H.Line g.R.Line (c.loop-goal.invariant.2 asked page onward) (next ∙ faulted p.0 _ _ was p.1)
 
 pub returns-in-Goal : goal.returns-in-Goal
 returns-in-Goal g c = λ asked page onward.
-    let plan' = c.next-move.new.plan in
-    let next = move_taken asked page onward c.loop-goal.plan plan' c.next-move.result c.next-move.ensures in
-    let was = c.in-ok-goal.was ∙ ap Ok c.in-Goal.is in
+    let plan' = c.next_move.new.plan in
+    let next = move_taken asked page onward c.loop-goal.plan plan' c.next_move.result c.next_move.ensures in
+    let was = c.in_ok-goal.was ∙ ap Ok c.in-Goal.is in
     so g.K.Key g.H.Line g.R.Line (c.loop-goal.invariant.2 asked page onward) (next ∙ ap (λ r. resuming r (λ move. moving asked page onward move (passed_of plan'.cursor) (plan_left plan'))) was)
 
 pub exchange-done-requires : goal.exchange-done-requires
 exchange-done-requires g c = (c.loop-goal.invariant.0, c.loop-goal.invariant.1)
 
 pub loop-goal-smaller : goal.loop-goal-smaller
-loop-goal-smaller g c = taken-fewer c.loop-goal.plan c.next-move.new.plan c.next-move.result _ c.next-move.ensures c.in-ok-goal.was
+loop-goal-smaller g c = taken-fewer c.loop-goal.plan c.next_move.new.plan c.next_move.result _ c.next_move.ensures c.in_ok-goal.was
 
 pub loop-goal-preserved : goal.loop-goal-preserved
 loop-goal-preserved g c =
-    let plan' = c.next-move.new.plan in
-    let was = c.in-ok-goal.was ∙ ap Ok c.in-Exchange.is in
-    let done = exchange-made g.K.Key g.H.Line g.R.Line c.args.house.now c.loop-goal.rival c.exchange-done.new.rival c.loop-goal.bench.ledger c.exchange-done.new.self.ledger c.loop-goal.plan plan' c.next-move.result c.in-Exchange.place c.exchange-done.result c.passed.result c.said-of.result c.loop-goal.invariant.0 c.loop-goal.invariant.1 c.next-move.ensures was c.exchange-done.ensures c.passed.ensures.value c.said-of.ensures in (
+    let plan' = c.next_move.new.plan in
+    let was = c.in_ok-goal.was ∙ ap Ok c.in-Exchange.is in
+    let done = exchange-made g.K.Key g.H.Line g.R.Line c.args.house.now c.loop-goal.rival c.exchange-done.new.rival c.loop-goal.bench.ledger c.exchange-done.new.self.ledger c.loop-goal.plan plan' c.next_move.result c.in-Exchange.place c.exchange-done.result c.passed.result c.said_of.result c.loop-goal.invariant.0 c.loop-goal.invariant.1 c.next_move.ensures was c.exchange-done.ensures c.passed.ensures.value c.said_of.ensures in (
       c.exchange-done.ensures.house_sound,
       c.exchange-done.ensures.rival_sound,
       (λ asked page onward. goes_on g.K.Key g.H.Line g.R.Line (c.loop-goal.invariant.2 asked page onward)
-          (so g.K.Key g.H.Line g.R.Line (done asked page onward) (ap (λ r. resuming r (λ _. asking_from asked page onward plan')) c.in-ok-said-of.was))),
+          (so g.K.Key g.H.Line g.R.Line (done asked page onward) (ap (λ r. resuming r (λ _. asking_from asked page onward plan')) c.in_ok-said_of.was))),
     )
 
-pub returns-in-err-said-of : goal.returns-in-err-said-of
-returns-in-err-said-of g c = λ asked page onward.
-    let plan' = c.next-move.new.plan in
-    let p = err_from_is_err_and c.from-residual-in-err-said-of.result c.from-residual-in-err-said-of.ensures.1 in
-    let stop = c.in-err-said-of.was ∙ ap Err (sym p.2) in
-    let was = c.in-ok-goal.was ∙ ap Ok c.in-Exchange.is in
-    let done = exchange-made g.K.Key g.H.Line g.R.Line c.args.house.now c.loop-goal.rival c.exchange-done.new.rival c.loop-goal.bench.ledger c.exchange-done.new.self.ledger c.loop-goal.plan plan' c.next-move.result c.in-Exchange.place c.exchange-done.result c.passed.result c.said-of.result c.loop-goal.invariant.0 c.loop-goal.invariant.1 c.next-move.ensures was c.exchange-done.ensures c.passed.ensures.value c.said-of.ensures in
+pub returns-in_err-said_of : goal.returns-in_err-said_of
+returns-in_err-said_of g c = λ asked page onward.
+    let plan' = c.next_move.new.plan in
+    let p = err_from_is_err_and c.from-residual-in_err-said_of.result c.from-residual-in_err-said_of.ensures.1 in
+    let stop = c.in_err-said_of.was ∙ ap Err (sym p.2) in
+    let was = c.in_ok-goal.was ∙ ap Ok c.in-Exchange.is in
+    let done = exchange-made g.K.Key g.H.Line g.R.Line c.args.house.now c.loop-goal.rival c.exchange-done.new.rival c.loop-goal.bench.ledger c.exchange-done.new.self.ledger c.loop-goal.plan plan' c.next_move.result c.in-Exchange.place c.exchange-done.result c.passed.result c.said_of.result c.loop-goal.invariant.0 c.loop-goal.invariant.1 c.next_move.ensures was c.exchange-done.ensures c.passed.ensures.value c.said_of.ensures in
     goes_on g.K.Key g.H.Line g.R.Line (c.loop-goal.invariant.2 asked page onward) (so g.K.Key g.H.Line g.R.Line (done asked page onward) (faulted p.0 _ _ stop p.1))

@@ -8,19 +8,19 @@ use Rattle.bench.proofs.Calls.{admitted-err, denied-call, done-call}
 use Rattle.bench.proofs.Effects.{add-ready, add_done}
 use Rattle.bench.proofs.standing.Running.add.Goals as goal
 
-pub returns-in-err-places : goal.returns-in-err-places
-returns-in-err-places g c =
+pub returns-in_err-places : goal.returns-in_err-places
+returns-in_err-places g c =
     let p = err_from_is_err_and c.from-residual.result c.from-residual.ensures.1 in
     denied-call g.K.Key g.H.Line g.R.Line g.met.K.Key.decides (add (g.K.Key.value c.args.key) c.args.goal) c.args.house.now c.args.rival.now c.args.self.now.ledger p.0 c.requires.0 c.requires.1 p.1
-    (admitted-err (failed g.K.Key g.H.Line g.R.Line (add (g.K.Key.value c.args.key) c.args.goal) c.args.house.now c.args.rival.now c.args.self.now.ledger) (next_places g.K.Key g.H.Line g.R.Line c.args.house.now c.args.rival.now) c.admit-add.ensures (c.in-err-places.was ∙ ap Err (sym p.2)))
+    (admitted-err (failed g.K.Key g.H.Line g.R.Line (add (g.K.Key.value c.args.key) c.args.goal) c.args.house.now c.args.rival.now c.args.self.now.ledger) (next_places g.K.Key g.H.Line g.R.Line c.args.house.now c.args.rival.now) c.admit_add.ensures (c.in_err-places.was ∙ ap Err (sym p.2)))
 
-pub overflow-sub-places : goal.overflow-sub-places
-overflow-sub-places g c = let a = add-ready g.K.Key g.H.Line g.R.Line g.met.K.Key.decides c.args.key c.args.house.now c.args.rival.now c.args.self.now.ledger c.in-ok-places.places c.args.goal c.admit-add.ensures c.in-ok-places.was in omega (arith, a.2)
+pub overflow_sub-places : goal.overflow_sub-places
+overflow_sub-places g c = let a = add-ready g.K.Key g.H.Line g.R.Line g.met.K.Key.decides c.args.key c.args.house.now c.args.rival.now c.args.self.now.ledger c.in_ok-places.places c.args.goal c.admit_add.ensures c.in_ok-places.was in omega (arith, a.2)
 
-pub bring-both-requires : goal.bring-both-requires
-bring-both-requires g c =
-    let a = add-ready g.K.Key g.H.Line g.R.Line g.met.K.Key.decides c.args.key c.args.house.now c.args.rival.now c.args.self.now.ledger c.in-ok-places.places c.args.goal c.admit-add.ensures c.in-ok-places.was in
-    let post = c.append-both.ensures in
+pub bring_both-requires : goal.bring_both-requires
+bring_both-requires g c =
+    let a = add-ready g.K.Key g.H.Line g.R.Line g.met.K.Key.decides c.args.key c.args.house.now c.args.rival.now c.args.self.now.ledger c.in_ok-places.places c.args.goal c.admit_add.ensures c.in_ok-places.was in
+    let post = c.append_both.ensures in
     let hl = ap length post.house ∙ length_push (g.H.Line.keys c.args.house.now) c.args.key in
     let rl = ap length post.rival ∙ length_push (g.R.Line.keys c.args.rival.now) c.args.key in
     record {
@@ -31,7 +31,7 @@ bring-both-requires g c =
 
 pub served-self-requires : goal.served-self-requires
 served-self-requires g c =
-    let a = add-ready g.K.Key g.H.Line g.R.Line g.met.K.Key.decides c.args.key c.args.house.now c.args.rival.now c.args.self.now.ledger c.in-ok-places.places c.args.goal c.admit-add.ensures c.in-ok-places.was in
+    let a = add-ready g.K.Key g.H.Line g.R.Line g.met.K.Key.decides c.args.key c.args.house.now c.args.rival.now c.args.self.now.ledger c.in_ok-places.places c.args.goal c.admit_add.ensures c.in_ok-places.was in
     let hw = g.met.H.Orderly.within c.args.house.now c.requires.0 in
     let hb = g.met.H.Orderly.bounded c.args.house.now c.requires.0 in
     let rw' = g.met.R.Orderly.within c.args.rival.now c.requires.1 in
@@ -40,11 +40,11 @@ served-self-requires g c =
 
 pub returns : goal.returns
 returns g c =
-    let a = add-ready g.K.Key g.H.Line g.R.Line g.met.K.Key.decides c.args.key c.args.house.now c.args.rival.now c.args.self.now.ledger c.in-ok-places.places c.args.goal c.admit-add.ensures c.in-ok-places.was in
-    let post = c.bring-both.ensures in
-    done-call g.K.Key g.H.Line g.R.Line g.met.K.Key.decides (add (g.K.Key.value c.args.key) c.args.goal) c.args.house.now c.args.rival.now c.args.self.now.ledger c.bring-both.new.house c.bring-both.new.rival c.served-self.result
-    post.sound.0 post.sound.1 (c.bring-both.ensures.limits ∙ c.append-both.ensures.limits) refl a.0.passed
-    (add_done g.K.Key g.H.Line g.R.Line g.met.K.Key.decides c.args.key c.args.house.now c.args.rival.now c.args.self.now.ledger c.bring-both.new.house c.bring-both.new.rival c.served-self.result c.args.goal c.in-ok-places.places a.0.at
-    (post.house ∙ ap (brought_forward c.in-ok-places.places.house 1) c.append-both.ensures.house)
-    (post.rival ∙ ap (brought_forward c.in-ok-places.places.rival c.args.goal) c.append-both.ensures.rival)
+    let a = add-ready g.K.Key g.H.Line g.R.Line g.met.K.Key.decides c.args.key c.args.house.now c.args.rival.now c.args.self.now.ledger c.in_ok-places.places c.args.goal c.admit_add.ensures c.in_ok-places.was in
+    let post = c.bring_both.ensures in
+    done-call g.K.Key g.H.Line g.R.Line g.met.K.Key.decides (add (g.K.Key.value c.args.key) c.args.goal) c.args.house.now c.args.rival.now c.args.self.now.ledger c.bring_both.new.house c.bring_both.new.rival c.served-self.result
+    post.sound.0 post.sound.1 (c.bring_both.ensures.limits ∙ c.append_both.ensures.limits) refl a.0.passed
+    (add_done g.K.Key g.H.Line g.R.Line g.met.K.Key.decides c.args.key c.args.house.now c.args.rival.now c.args.self.now.ledger c.bring_both.new.house c.bring_both.new.rival c.served-self.result c.args.goal c.in_ok-places.places a.0.at
+    (post.house ∙ ap (brought_forward c.in_ok-places.places.house 1) c.append_both.ensures.house)
+    (post.rival ∙ ap (brought_forward c.in_ok-places.places.rival c.args.goal) c.append_both.ensures.rival)
     c.served-self.ensures)

@@ -11,17 +11,17 @@ use Rattle.bench.proofs.Calls.{allowed-err, allowed-ok, past-exchange, settled-c
 use Rattle.bench.proofs.Effects.{exchange-done}
 use Rattle.bench.proofs.standing.Running.exchange.Goals as goal
 
-pub returns-then-self-eq-COUNTER-LIMIT : goal.returns-then-self-eq-COUNTER-LIMIT
-returns-then-self-eq-COUNTER-LIMIT g c =
+pub returns-then-self-eq-COUNTER_LIMIT : goal.returns-then-self-eq-COUNTER_LIMIT
+returns-then-self-eq-COUNTER_LIMIT g c =
     denied-call g.K.Key g.H.Line g.R.Line g.met.K.Key.decides (exchange c.args.place) c.args.house.now c.args.rival.now c.args.self.now.ledger Exhausted c.requires.0 c.requires.1 refl
-    (rw (eq-eqb c.args.self.now.ledger.paid most c.if-self-eq-COUNTER-LIMIT.true) refl)
+    (rw (eq-eqb c.args.self.now.ledger.paid most c.if-self-eq-COUNTER_LIMIT.true) refl)
 
-pub returns-in-err-exchange : goal.returns-in-err-exchange
-returns-in-err-exchange g c =
+pub returns-in_err-exchange : goal.returns-in_err-exchange
+returns-in_err-exchange g c =
     let p = err_from_is_err_and c.from-residual.result c.from-residual.ensures.1 in
     let ks = g.R.Line.keys c.args.rival.now in
-    let out = allowed-err (may_exchange c.args.place (length ks)) c.exchange.ensures.gives (c.in-err-exchange.was ∙ ap Err (sym p.2)) in
-    let less : eqb c.args.self.now.ledger.paid most ≡ false = ne_eqb _ _ c.if-self-eq-COUNTER-LIMIT.false in
+    let out = allowed-err (may_exchange c.args.place (length ks)) c.exchange.ensures.gives (c.in_err-exchange.was ∙ ap Err (sym p.2)) in
+    let less : eqb c.args.self.now.ledger.paid most ≡ false = ne_eqb _ _ c.if-self-eq-COUNTER_LIMIT.false in
     let far : may_exchange c.args.place (length (map g.K.Key.value ks)) ≡ false = rw (length-map ks g.K.Key.value) out.0 in
     let same = c.exchange.ensures.keys ∙ exchanged-outside c.args.place ks (past-exchange c.args.place (length ks) out.0) in
     settled-call g.K.Key g.H.Line g.R.Line g.met.K.Key.decides (exchange c.args.place) c.args.house.now c.args.rival.now c.args.self.now.ledger c.args.house.now c.exchange.new.self c.args.self.now.ledger c.requires.0 c.exchange.ensures.sound
@@ -33,8 +33,8 @@ returns-in-err-exchange g c =
 pub returns : goal.returns
 returns g c =
     let ks = g.R.Line.keys c.args.rival.now in
-    let may = allowed-ok (may_exchange c.args.place (length ks)) c.exchange.ensures.gives c.in-ok-exchange.was in
-    let less : eqb c.args.self.now.ledger.paid most ≡ false = ne_eqb _ _ c.if-self-eq-COUNTER-LIMIT.false in
+    let may = allowed-ok (may_exchange c.args.place (length ks)) c.exchange.ensures.gives c.in_ok-exchange.was in
+    let less : eqb c.args.self.now.ledger.paid most ≡ false = ne_eqb _ _ c.if-self-eq-COUNTER_LIMIT.false in
     let near : may_exchange c.args.place (length (map g.K.Key.value ks)) ≡ true = rw (length-map ks g.K.Key.value) may in
     done-call g.K.Key g.H.Line g.R.Line g.met.K.Key.decides (exchange c.args.place) c.args.house.now c.args.rival.now c.args.self.now.ledger c.args.house.now c.exchange.new.self c.exchanged-self.result c.requires.0 c.exchange.ensures.sound
     (λ i. record { house = g.H.Line.limit c.args.house.now; rival = c.exchange.ensures.limit i }) refl

@@ -6,20 +6,20 @@ use Rattle.bench.proofs.Calls.{admitted-err, denied-call, done-call}
 use Rattle.bench.proofs.Effects.{remove-ready, remove-done}
 use Rattle.bench.proofs.standing.Running.remove.Goals as goal
 
-pub returns-in-err-places : goal.returns-in-err-places
-returns-in-err-places g c =
+pub returns-in_err-places : goal.returns-in_err-places
+returns-in_err-places g c =
     let p = err_from_is_err_and c.from-residual.result c.from-residual.ensures.1 in
     denied-call g.K.Key g.H.Line g.R.Line g.met.K.Key.decides (remove (g.K.Key.value c.args.key)) c.args.house.now c.args.rival.now c.args.self.now.ledger p.0 c.requires.0 c.requires.1 p.1
-    (admitted-err (failed g.K.Key g.H.Line g.R.Line (remove (g.K.Key.value c.args.key)) c.args.house.now c.args.rival.now c.args.self.now.ledger) (places_of g.K.Key g.H.Line g.R.Line c.args.key c.args.house.now c.args.rival.now) c.admit-remove.ensures (c.in-err-places.was ∙ ap Err (sym p.2)))
+    (admitted-err (failed g.K.Key g.H.Line g.R.Line (remove (g.K.Key.value c.args.key)) c.args.house.now c.args.rival.now c.args.self.now.ledger) (places_of g.K.Key g.H.Line g.R.Line c.args.key c.args.house.now c.args.rival.now) c.admit_remove.ensures (c.in_err-places.was ∙ ap Err (sym p.2)))
 
-pub take-both-requires : goal.take-both-requires
-take-both-requires g c =
-    let a = remove-ready g.K.Key g.H.Line g.R.Line g.met.K.Key.decides c.args.key c.args.house.now c.args.rival.now c.args.self.now.ledger c.in-ok-places.places c.admit-remove.ensures c.in-ok-places.was in
+pub take_both-requires : goal.take_both-requires
+take_both-requires g c =
+    let a = remove-ready g.K.Key g.H.Line g.R.Line g.met.K.Key.decides c.args.key c.args.house.now c.args.rival.now c.args.self.now.ledger c.in_ok-places.places c.admit_remove.ensures c.in_ok-places.was in
     record { sound = c.requires; house = (a.house_low, a.house_high); rival = (a.rival_low, a.rival_high) }
 
 pub served-self-requires : goal.served-self-requires
 served-self-requires g c =
-    let a = remove-ready g.K.Key g.H.Line g.R.Line g.met.K.Key.decides c.args.key c.args.house.now c.args.rival.now c.args.self.now.ledger c.in-ok-places.places c.admit-remove.ensures c.in-ok-places.was in
+    let a = remove-ready g.K.Key g.H.Line g.R.Line g.met.K.Key.decides c.args.key c.args.house.now c.args.rival.now c.args.self.now.ledger c.in_ok-places.places c.admit_remove.ensures c.in_ok-places.was in
     let hw = g.met.H.Orderly.within c.args.house.now c.requires.0 in
     let hb = g.met.H.Orderly.bounded c.args.house.now c.requires.0 in
     let rw' = g.met.R.Orderly.within c.args.rival.now c.requires.1 in
@@ -28,8 +28,8 @@ served-self-requires g c =
 
 pub returns : goal.returns
 returns g c =
-    let a = remove-ready g.K.Key g.H.Line g.R.Line g.met.K.Key.decides c.args.key c.args.house.now c.args.rival.now c.args.self.now.ledger c.in-ok-places.places c.admit-remove.ensures c.in-ok-places.was in
-    let post = c.take-both.ensures in
-    done-call g.K.Key g.H.Line g.R.Line g.met.K.Key.decides (remove (g.K.Key.value c.args.key)) c.args.house.now c.args.rival.now c.args.self.now.ledger c.take-both.new.house c.take-both.new.rival c.served-self.result
+    let a = remove-ready g.K.Key g.H.Line g.R.Line g.met.K.Key.decides c.args.key c.args.house.now c.args.rival.now c.args.self.now.ledger c.in_ok-places.places c.admit_remove.ensures c.in_ok-places.was in
+    let post = c.take_both.ensures in
+    done-call g.K.Key g.H.Line g.R.Line g.met.K.Key.decides (remove (g.K.Key.value c.args.key)) c.args.house.now c.args.rival.now c.args.self.now.ledger c.take_both.new.house c.take_both.new.rival c.served-self.result
     post.sound.0 post.sound.1 post.limits refl a.passed
-    (remove-done g.K.Key g.H.Line g.R.Line g.met.K.Key.decides c.args.key c.args.house.now c.args.rival.now c.args.self.now.ledger c.take-both.new.house c.take-both.new.rival c.served-self.result c.in-ok-places.places a.at post.house post.rival c.served-self.ensures)
+    (remove-done g.K.Key g.H.Line g.R.Line g.met.K.Key.decides c.args.key c.args.house.now c.args.rival.now c.args.self.now.ledger c.take_both.new.house c.take_both.new.rival c.served-self.result c.in_ok-places.places a.at post.house post.rival c.served-self.ensures)

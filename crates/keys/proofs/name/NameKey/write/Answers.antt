@@ -16,6 +16,6 @@ loop-i-preserved c =
 pub returns : goal.returns
 returns c =
     let k = c.args.self.now in
-    let done = written-copied (name_of k) c.args.buffer.now c.meant-len-len.result c.meant-len-len.ensures.value (omega arith) in
-    let all : c.loop-i.i ≡ c.meant-len-len.result = omega arith in
+    let done = written-copied (name_of k) c.args.buffer.now c.meant_len-len.result c.meant_len-len.ensures.value (omega arith) in
+    let all : c.loop-i.i ≡ c.meant_len-len.result = omega arith in
     cc
