@@ -36,8 +36,8 @@ lowered_none b e = grind arith
 pub length-name : (k : Name) → length (name_of k) ≡ name_length k.len
 length-name k = length-map-range_with_len (λ i. name_byte (slice_index k.bytes i)) 0 (name_length k.len)
 
-pub get_d-name : (k : Name) (i : ℕ) → i < length (name_of k) → slice_index (name_of k) i ≡ name_byte (slice_index k.bytes i)
-get_d-name k i h =
+pub get_or-name : (k : Name) (i : ℕ) → i < length (name_of k) → slice_index (name_of k) i ≡ name_byte (slice_index k.bytes i)
+get_or-name k i h =
     get_or-map-range_with_len (λ i. name_byte (slice_index k.bytes i)) 0 (name_length k.len) i i 0 (rw length-name at h) (omega arith)
 
 -- bytes are read where each is in the alphabet, and not where one is outside
@@ -63,8 +63,8 @@ pub reads-name : (k : Name) → name_read (name_of k) ≡ Some (name_of k)
 reads-name k =
     let long = length-name k in
     reads (name_of k) _ (name_length k.len) long (omega arith) (omega arith)
-    (λ i h. rw (get_d-name k i (omega arith)) (byte-in (slice_index k.bytes i)))
-    (λ i h. rw (get_d-name k i (omega arith)) (byte_small (slice_index k.bytes i)))
+    (λ i h. rw (get_or-name k i (omega arith)) (byte-in (slice_index k.bytes i)))
+    (λ i h. rw (get_or-name k i (omega arith)) (byte_small (slice_index k.bytes i)))
 
 -- two names are apart by their lengths or by a place, and else the same
 module _ (a b : Name) where
@@ -76,9 +76,9 @@ module _ (a b : Name) where
 
   pub apart-at : (i : ℕ) → i < length (name_of a) → i < length (name_of b) → (name_byte (slice_index a.bytes i) ≢ name_byte (slice_index b.bytes i)) → bytes_eq (name_of a) (name_of b) ≡ false
   apart-at i h j differ =
-      apart (λ e. differ (sym (get_d-name a i h) ∙ ap (λ xs. slice_index xs i) e ∙ get_d-name b i j))
+      apart (λ e. differ (sym (get_or-name a i h) ∙ ap (λ xs. slice_index xs i) e ∙ get_or-name b i j))
 
   pub same_name : length (name_of a) ≡ length (name_of b) → ((i : ℕ) → i < length (name_of a) → name_byte (slice_index a.bytes i) ≡ name_byte (slice_index b.bytes i)) → bytes_eq (name_of a) (name_of b) ≡ true
   same_name e each =
       (bytes_eq-Decides _ _).1
-      (ext_get_or 0 _ _ e (λ i h. get_d-name a i h ∙ each i h ∙ sym (get_d-name b i (omega arith))))
+      (ext_get_or 0 _ _ e (λ i h. get_or-name a i h ∙ each i h ∙ sym (get_or-name b i (omega arith))))

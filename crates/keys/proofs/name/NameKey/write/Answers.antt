@@ -2,13 +2,13 @@ use Rattle.std.proofs.Common.{◌≡◌, zero-add, arith}
 use Rattle.std.proofs.lemmas.List.Edits.{paste_more}
 use Rattle.keys.specs.Names.{name_of}
 use Rattle.keys.proofs.Buffers.{written-copied}
-use Rattle.keys.specs.NamesLemmas.{get_d-name}
+use Rattle.keys.specs.NamesLemmas.{get_or-name}
 use Rattle.keys.proofs.name.NameKey.write.Goals as goal
 
 pub loop-i-preserved : goal.loop-i-preserved
 loop-i-preserved c =
     let k = c.args.self.now in
-    let at = get_d-name k c.loop-i.i (omega arith) in
+    let at = get_or-name k c.loop-i.i (omega arith) in
     let step = paste_more c.args.buffer.now 0 (name_of k) c.loop-i.i 0 (omega arith) (omega arith) in
     let none = zero-add c.loop-i.i in
     cc
