@@ -6,6 +6,7 @@ ghost use Rattle.lines.specs.Orders.{key_at, taken_out, exchanged};
 ghost use Rattle.lines.specs.Places.{place_of};
 ghost use Rattle.chain.specs.Ways.{way, beyond, redirected, moved_back};
 ghost use Rattle.chain.specs.Chains.{keys_in, nexts_in, room, chained, Whole, Sound};
+ghost use Rattle.chain.specs.Laws.{keys-within, room-bounded};
 
 use keys::{Denial, Key};
 use lines::{Line, Orderly};
@@ -266,4 +267,11 @@ impl<'a, K: Key> Line<K> for Chain<'a, K> {
     }
 }
 
-impl<'a, K: Key> Orderly<K> for Chain<'a, K> {}
+// The laws of a line hold of chains.
+impl<'a, K: Key> Orderly<K> for Chain<'a, K> {
+    ghost different = { λ s sound. sound.differ };
+
+    ghost within = { λ s sound. keys-within sound };
+
+    ghost bounded = { λ s sound. room-bounded s.cells.now };
+}

@@ -5,6 +5,7 @@ ghost use Rattle.std.specs.Prelude.{◌≡◌, ◌+◌, ◌<◌, ◌≤◌, [], 
 ghost use Rattle.lines.specs.Orders.{key_at, is_place, taken_out, may_exchange, exchanged};
 ghost use Rattle.lines.specs.Places.{place_of};
 ghost use Rattle.row.specs.Rows.{row_keys, limit_over, row_limit, RowSound};
+ghost use Rattle.row.specs.Laws.{keys-within, limit-bounded};
 
 use keys::{Denial, Key};
 use lines::{Line, Orderly};
@@ -172,4 +173,10 @@ impl<'a, K: Key> Line<K> for Row<'a, K> {
 }
 
 // The laws of a line hold of rows.
-impl<'a, K: Key> Orderly<K> for Row<'a, K> {}
+impl<'a, K: Key> Orderly<K> for Row<'a, K> {
+    ghost different = { λ s sound. sound.1 };
+
+    ghost within = { λ s sound. keys-within s sound.0 };
+
+    ghost bounded = { λ s sound. limit-bounded s };
+}

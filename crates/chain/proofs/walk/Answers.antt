@@ -3,7 +3,7 @@ use Rattle.chain.proofs.Cells.{walk-there, walk-on}
 use Rattle.chain.proofs.walk.Goals as goal
 
 inside : goal.bounds-cells-here
-inside g c = walk-there c.args.cells.now c.loop-step.here (c.args.steps - c.loop-step.-step) (c.args.steps - (c.loop-step.-step + 1)) (omega arith) c.loop-step.invariant.0
+inside g c = walk-there c.args.cells.now c.loop-step.here (c.args.steps - c.loop-step._step) (c.args.steps - (c.loop-step._step + 1)) (omega arith) c.loop-step.invariant.0
 
 pub offset_bounds-cells-here : goal.offset_bounds-cells-here
 offset_bounds-cells-here g c = let l : c.loop-step.here < length c.args.cells.now = inside g c in omega arith
@@ -12,7 +12,7 @@ pub bounds-cells-here : goal.bounds-cells-here
 bounds-cells-here = inside
 
 pub loop-step-preserved : goal.loop-step-preserved
-loop-step-preserved g c = walk-on c.args.cells.now c.loop-step.here (c.args.steps - c.loop-step.-step) (c.args.steps - (c.loop-step.-step + 1)) _ c.index-cells-here.result (omega arith) c.index-cells-here.is c.loop-step.invariant
+loop-step-preserved g c = walk-on c.args.cells.now c.loop-step.here (c.args.steps - c.loop-step._step) (c.args.steps - (c.loop-step._step + 1)) _ c.index-cells-here.result (omega arith) c.index-cells-here.is c.loop-step.invariant
 
 pub returns : goal.returns
-returns g c = let e : c.args.steps - c.loop-step.-step ≡ 0 = omega arith in rw e at c.loop-step.invariant.1
+returns g c = let e : c.args.steps - c.loop-step._step ≡ 0 = omega arith in rw e at c.loop-step.invariant.1
