@@ -5,7 +5,8 @@ use Rattle.keys.specs.declared.denial.Denial.{Denial}
 use Rattle.logs.specs.declared.plans.Move.{Move}
 use Rattle.logs.specs.Framing.{two_bytes, passed_by, read_in, read_next}
 use Rattle.logs.specs.Records.{with, followed, at_most, records_from}
-use Rattle.logs.specs.Pages.{Entry, page_entry, now_requested, requested_by, valued_entries, entries_from, page_records_from, page_by}
+use Rattle.logs.specs.Pages.{Entry, page_entry, now_requested, requested_by, page_records_from}
+use Rattle.logs.specs.Items.{valued_entries, page_items_from, page_by}
 use Rattle.logs.specs.Plans.{plan_move, unchanged, plan_moves, plan_by}
 
 -- fewer bytes than n are left behind a record that is given
@@ -58,33 +59,36 @@ pub read-fewer : {R : Type 0} (rule : List ℕ → Result R Denial) (bytes left 
 read-fewer rule bytes left r e = subst (Less (length bytes)) e (less-read rule bytes)
 
 -- for page logs
-valued_by : {V : Type 0} (reading : List ℕ → Option V) (requested : Bool) (left : List ℕ) (answer : Result (Option (Entry (List ℕ))) Denial)
-    → (let found = followed now_requested (entries_from reading) requested (answer, left) in valued_entries reading found.0 found.1)
-    ≡ page_by reading answer (page_records_from reading (requested_by requested answer) left)
+pub page-records-next : {V : Type 0} (reading : List ℕ → Option V) (requested : Bool) (bytes : List ℕ) → page_records_from reading requested bytes ≡ followed now_requested (page_records_from reading) requested (read_next (page_entry reading requested) bytes)
+page-records-next reading = records-next (page_entry reading) now_requested
+
+valued_by : {V : Type 0} (reading : List ℕ → Option V) (requested : Bool) (left : List ℕ) (answer : Result (Option Entry) Denial)
+    → (let found = followed now_requested (page_records_from reading) requested (answer, left) in valued_entries reading found.0 found.1)
+    ≡ page_by reading answer (page_items_from reading (requested_by requested answer) left)
 valued_by reading requested left (Ok None) = refl
 valued_by reading requested left (Ok (Some e)) = refl
 valued_by reading requested left (Err d) = refl
 
-pub page-next : {V : Type 0} (reading : List ℕ → Option V) (requested requested' : Bool) (bytes left : List ℕ) (answer : Result (Option (Entry (List ℕ))) Denial)
+pub page-next : {V : Type 0} (reading : List ℕ → Option V) (requested requested' : Bool) (bytes left : List ℕ) (answer : Result (Option Entry) Denial)
     → read_next (page_entry reading requested) bytes ≡ (answer, left) → requested' ≡ requested_by requested answer
-    → page_records_from reading requested bytes ≡ page_by reading answer (page_records_from reading requested' left)
+    → page_items_from reading requested bytes ≡ page_by reading answer (page_items_from reading requested' left)
 page-next reading requested requested' bytes left answer e r =
-    let found = records-next (page_entry reading) now_requested requested bytes ∙ ap (followed now_requested (entries_from reading) requested) e in
-    ap (λ (es : List (Entry (List ℕ)) × Option Denial). valued_entries reading es.0 es.1) found
+    let found = page-records-next reading requested bytes ∙ ap (followed now_requested (page_records_from reading) requested) e in
+    ap (λ (es : List Entry × Option Denial). valued_entries reading es.0 es.1) found
     ∙ valued_by reading requested left answer
-    ∙ ap (λ b. page_by reading answer (page_records_from reading b left)) (sym r)
+    ∙ ap (λ b. page_by reading answer (page_items_from reading b left)) (sym r)
 
 -- and for plan logs
+pub plan-moves-next : (bytes : List ℕ) → plan_moves bytes ≡ followed unchanged (λ _. plan_moves) tt (read_next plan_move bytes)
+plan-moves-next = records-next (λ _. plan_move) unchanged tt
+
 followed-by : (left : List ℕ) (answer : Result (Option Move) Denial) → followed unchanged (λ _. plan_moves) tt (answer, left) ≡ plan_by answer (plan_moves left)
 followed-by left (Ok None) = refl
 followed-by left (Ok (Some m)) = refl
 followed-by left (Err d) = refl
 
 pub plan-next : (bytes left : List ℕ) (answer : Result (Option Move) Denial) → read_next plan_move bytes ≡ (answer, left) → plan_moves bytes ≡ plan_by answer (plan_moves left)
-plan-next bytes left answer e =
-    records-next (λ _. plan_move) unchanged tt bytes
-    ∙ ap (followed unchanged (λ _. plan_moves) tt) e
-    ∙ followed-by left answer
+plan-next bytes left answer e = plan-moves-next bytes ∙ ap (followed unchanged (λ _. plan_moves) tt) e ∙ followed-by left answer
 
 -- where a byte is left, a plan has a move or a fault
 abbrev GoesOn : {R : Type 0} → Result (Option R) Denial × List ℕ → Type 0
@@ -122,5 +126,5 @@ some-followed (Err d, left) h = tt
 pub plan-left : (bytes : List ℕ) → plan_moves bytes ≡ ([], None) → length bytes ≡ 0
 plan-left [] e = refl
 plan-left (b ∷ bytes) e =
-    let found = records-next (λ _. plan_move) unchanged tt (b ∷ bytes) in
+    let found = plan-moves-next (b ∷ bytes) in
     absurd (subst Some-left (sym found ∙ e) (some-followed (read_next plan_move (b ∷ bytes)) (goes_on plan_move b bytes)))

@@ -3,7 +3,6 @@ use Rattle.std.specs.Prelude.{ℕ, ◌+◌, ◌-◌, ◌*◌, ◌^◌, ◌<◌, 
 use Rattle.keys.specs.declared.denial.Denial.{Denial}
 use Rattle.keys.specs.declared.denial.Denial.TheVariants.{Version, Letter, CutOff}
 use Rattle.logs.specs.declared.framing.Frame.{Frame}
-use Rattle.logs.specs.declared.framing.Cursor.{Cursor}
 
 -- what is left behind a first byte, which has to be the wanted one
 abbrev pub behind : ℕ → Denial → List ℕ → Result (List ℕ) Denial
@@ -72,11 +71,3 @@ abbrev pub FewerThan : ℕ → Result (Option Frame) Denial → Type 0
 FewerThan n (Ok None) = Unit {0}
 FewerThan n (Ok (Some frame)) = length frame.rest.now < n
 FewerThan n (Err d) = Unit {0}
-
--- the bytes that a cursor has left
-abbrev pub left_of : Cursor → List ℕ
-left_of cursor = cursor.rest.now
-
--- How many records a cursor has passed. With the bytes left they make less than 2 ^ 63, as the bytes of any log do, and a field that says more counts as the most that they can be.
-abbrev pub passed_of : Cursor → ℕ
-passed_of cursor = min cursor.passed (2 ^ 63 - 1 - length (left_of cursor))

@@ -1,7 +1,7 @@
 // The bytes of a log: a header, and then records with their lengths.
-ghost use Rattle.std.specs.Prelude.{◌≡◌, ◌+◌, ◌<◌, length, ◌==◌};
+ghost use Rattle.std.specs.Prelude.{◌≡◌, ◌+◌, ◌^◌, ◌<◌, length, ◌==◌};
 ghost use Rattle.keys.specs.Spelling.{meant};
-ghost use Rattle.logs.specs.Framing.{behind, versioned, lettered, two_bytes, framed, next_in, valued, parts_of, FewerThan, left_of, passed_of};
+ghost use Rattle.logs.specs.Framing.{behind, versioned, lettered, two_bytes, framed, next_in, valued, parts_of, FewerThan};
 
 use keys::Denial;
 
@@ -70,17 +70,17 @@ pub(crate) fn next_frame(bytes: &[u8]) -> Result<Option<Frame<'_>>, Denial>
     }
 }
 
-// No slice has more bytes.
-const MOST_BYTES: usize = 0x7fff_ffff_ffff_ffff;
-
-// A place in a log: what is left of it, and how many records were passed.
+// A place in a log: what is left of it, and how many records were passed. Each had a byte at least, and no log has 2 ^ 63 bytes.
 #[derive(Clone, Copy)]
 pub(crate) struct Cursor<'a> {
     pub(crate) rest: &'a [u8],
     passed: usize,
+    ghost few: { passed + length rest.now < 2 ^ 63 },
 }
 
 impl<'a> Cursor<'a> {
+    ghost use Rattle.logs.specs.Cursors.{left_of, passed_of};
+
     // A cursor that has passed nothing.
     pub(crate) fn at(rest: &'a [u8]) -> Cursor<'a>
         ensures left { left_of result ≡ rest.now }
@@ -98,9 +98,10 @@ impl<'a> Cursor<'a> {
 
     // How many records were passed.
     pub(crate) fn passed(&self) -> usize
-        ensures { result ≡ passed_of self.now }
+        ensures value { result ≡ passed_of self.now }
+        ensures bound { result < 2 ^ 63 }
     {
-        self.passed.min(MOST_BYTES - self.rest.len())
+        self.passed.min(usize::MAX - self.rest.len())
     }
 
     // Passes one record, behind which these bytes are left.

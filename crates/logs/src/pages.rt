@@ -1,8 +1,9 @@
 // Page logs: first keys, then requests.
 ghost use Rattle.std.specs.Prelude.{◌≡◌, ◌+◌, ◌^◌, ◌<◌, false, length, IfOk, ◌==◌, nat_lt};
 ghost use Rattle.keys.specs.Spelling.{meant};
-ghost use Rattle.logs.specs.Framing.{versioned, lettered_in, read_next, valued, gained, left_of, passed_of};
-ghost use Rattle.logs.specs.Pages.{lettered_entry, spelled_entry, request_of, asked_key, entry_of, is_request, page_entry, requested_by};
+ghost use Rattle.logs.specs.Framing.{versioned, lettered_in, read_next, valued, gained};
+ghost use Rattle.logs.specs.Cursors.{left_of, passed_of};
+ghost use Rattle.logs.specs.Pages.{entry_as, spelled_entry, asked, request_of, entry_of, is_request, page_entry, requested_by};
 
 use super::framing::{Cursor, behind_letter, behind_version, next_frame};
 use keys::{Denial, Key};
@@ -18,7 +19,7 @@ pub enum Request<'a> {
 impl<'a> Request<'a> {
     // The spelling of the key.
     pub fn spelling(self) -> &'a [u8]
-        ensures { result.now ≡ asked_key (request_of self.entry) }
+        ensures { result.now ≡ (request_of self.entry).spelling }
     {
         match self {
             Request::Lookup(spelling) => spelling,
@@ -37,7 +38,7 @@ pub enum PageRecord<'a> {
 
 // The record of a letter and a spelling, where a first key does not follow a request.
 fn record_by(letter: u8, spelling: &[u8], requested: bool) -> Result<PageRecord<'_>, Denial>
-    ensures { meant entry_of result ≡ lettered_entry requested letter spelling.now }
+    ensures { meant entry_of result ≡ entry_as (asked requested letter) spelling.now }
 {
     match letter {
         b'F' if !requested => Ok(PageRecord::First(spelling)),

@@ -1,7 +1,8 @@
 // Plan logs: moves of a plan, each with a place.
 ghost use Rattle.std.specs.Prelude.{◌≡◌, ◌+◌, ◌^◌, ◌<◌, length, IfOk, ◌==◌};
 ghost use Rattle.keys.specs.Spelling.{meant};
-ghost use Rattle.logs.specs.Framing.{versioned, read_next, gained, left_of, passed_of};
+ghost use Rattle.logs.specs.Framing.{versioned, read_next, gained};
+ghost use Rattle.logs.specs.Cursors.{left_of, passed_of};
 ghost use Rattle.logs.specs.Plans.{move_by, plan_move};
 
 use super::framing::{Cursor, behind_version, next_frame, two_bytes};

@@ -170,5 +170,4 @@ module _ {V : Type 0} (equal : V → V → Bool) (decides : (v w : V) → Decide
         reckons = e;
         history = more;
         bounded = λ calls h. rw (more calls h) (twice-law limits (calls ++ call ∷ []));
-        floored = λ calls h. rw (more calls h) (floor-law limits (calls ++ call ∷ []));
       }

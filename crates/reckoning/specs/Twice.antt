@@ -2,7 +2,6 @@
 use Rattle.std.specs.Prelude.{◌≡◌, ℕ, ◌+◌, ◌*◌, ◌≤◌, Bool, List, [], ◌∷◌, ◌++◌, Result}
 use Rattle.keys.specs.declared.denial.Denial.{Denial}
 use Rattle.reckoning.specs.Reckoning.{Sums, State, Limits, Call, step, reckoned}
-use Rattle.reckoning.specs.Floor.{NoneBelow}
 
 -- the two sides of the bound
 abbrev pub house_side : Sums → ℕ
@@ -19,10 +18,8 @@ Twice s = house_side s ≤ rival_side s
 abbrev pub TwiceLaw : (V : Type 0) → (V → V → Bool) → Type 0
 TwiceLaw V equal = (limits : Limits) (calls : List (Call V)) → Twice (reckoned equal limits calls).sums
 
--- a call was made: its answer and the bench after it are the reckoning's; and if the bench had known no other calls than some list, it
--- has now known these and this one, it keeps the twice bound, and no rival with the same loads and requests costs less than its floor
+-- a call was made: its answer and the bench after it are the reckoning's; and if the bench had known no other calls than some list, it has now known these and this one, and keeps the twice bound
 pub record Made {V : Type 0} (equal : V → V → Bool) (limits : Limits) (call : Call V) (before : State V) (answer : Result (Unit {0}) Denial) (after : State V) : Type 0 where
   pub reckons : step equal limits call before ≡ (answer, after)
   pub history : (calls : List (Call V)) → before ≡ reckoned equal limits calls → after ≡ reckoned equal limits (calls ++ call ∷ [])
   pub bounded : (calls : List (Call V)) → before ≡ reckoned equal limits calls → Twice after.sums
-  pub floored : (calls : List (Call V)) → before ≡ reckoned equal limits calls → NoneBelow equal limits (calls ++ call ∷ []) after.sums

@@ -14,7 +14,7 @@ use Rattle.judge.proofs.judging.judge.Goals as goal
 
 pub returns-in_err-bench : goal.returns-in_err-bench
 returns-in_err-bench g c =
-    let p = err_from_is_err_and c.from-residual.result c.from-residual.ensures.1 in
+    let p = err_from_is_err_and c.from_residual.result c.from_residual.ensures.1 in
     let said = said-err Page 0 c.open.result p.0 (sym c.said_of.ensures ∙ c.in_err-bench.was ∙ ap Err (sym p.2)) in
     let denied = bench-denied g.K.Key g.H.Line g.R.Line c.args.house.now c.args.rival.now c.open.result said.0 c.open.ensures said.1 in
     judged-full g.K.Key g.H.Line g.R.Line g.met.K.Key.decides c.args.page.now c.args.plan.now c.args.house.now c.args.rival.now c.requires.0 c.requires.1 denied.0
@@ -22,7 +22,7 @@ returns-in_err-bench g c =
 
 pub returns-in_err-page : goal.returns-in_err-page
 returns-in_err-page g c =
-    let p = err_from_is_err_and c.from-residual-in_err-page.result c.from-residual-in_err-page.ensures.1 in
+    let p = err_from_is_err_and c.from_residual-in_err-page.result c.from_residual-in_err-page.ensures.1 in
     let ok = bench-opened g.K.Key g.H.Line g.R.Line c.args.house.now c.args.rival.now c.open.result c.in_ok-bench.bench c.open.ensures (said_ok Page 0 c.open.result _ (sym c.said_of.ensures ∙ c.in_ok-bench.was)) in
     let said = said-err Page 0 c.open-2.result p.0 (sym c.said_of-2.ensures ∙ c.in_err-page.was ∙ ap Err (sym p.2)) in
     let head = sym c.open-2.ensures.left ∙ ap (meant (λ (reader : PageReader). left_of reader.cursor)) said.1 in
@@ -32,7 +32,7 @@ returns-in_err-page g c =
 
 pub returns-in_err-plan : goal.returns-in_err-plan
 returns-in_err-plan g c =
-    let p = err_from_is_err_and c.from-residual-in_err-plan.result c.from-residual-in_err-plan.ensures.1 in
+    let p = err_from_is_err_and c.from_residual-in_err-plan.result c.from_residual-in_err-plan.ensures.1 in
     let ok = bench-opened g.K.Key g.H.Line g.R.Line c.args.house.now c.args.rival.now c.open.result c.in_ok-bench.bench c.open.ensures (said_ok Page 0 c.open.result _ (sym c.said_of.ensures ∙ c.in_ok-bench.was)) in
     let read = said_ok Page 0 c.open-2.result c.in_ok-page.page (sym c.said_of-2.ensures ∙ c.in_ok-page.was) in
     let said = said-err Plan 0 c.open-3.result p.0 (sym c.said_of-3.ensures ∙ c.in_err-plan.was ∙ ap Err (sym p.2)) in

@@ -7,7 +7,7 @@ use Rattle.judge.proofs.pages.load_all.Goals as goal
 
 pub returns-in_err-entry : goal.returns-in_err-entry
 returns-in_err-entry g c = λ plan.
-    let p = err_from_is_err_and c.from-residual.result c.from-residual.ensures.1 in
+    let p = err_from_is_err_and c.from_residual.result c.from_residual.ensures.1 in
     let was = c.in_err-entry.was ∙ ap Err (sym p.2) in
     let next = entry-loaded g.K.Key c.loop-entry.page c.next_entry.new.page (c.passed-at.result + 1) (ap (λ n. n + 1) c.passed-at.ensures.value) c.next_entry.result c.next_entry.ensures.read c.next_entry.ensures.advanced c.said_of.result c.said_of.ensures plan in
     so g.K.Key g.H.Line g.R.Line (c.loop-entry.invariant.2 plan) (next ∙ faulted p.0 _ _ was p.1)
@@ -39,7 +39,7 @@ loop-entry-preserved g c =
 
 pub returns-in_err-said_of : goal.returns-in_err-said_of
 returns-in_err-said_of g c = λ plan.
-    let p = err_from_is_err_and c.from-residual-in_err-said_of.result c.from-residual-in_err-said_of.ensures.1 in
+    let p = err_from_is_err_and c.from_residual-in_err-said_of.result c.from_residual-in_err-said_of.ensures.1 in
     let stop = c.in_err-said_of.was ∙ ap Err (sym p.2) in
     let at = c.passed-at.result + 1 in
     let page' = c.next_entry.new.page in

@@ -10,7 +10,7 @@ use Rattle.turns.proofs.entry.next_entry.Goals as goal
 
 pub returns-in_err-given : goal.returns-in_err-given
 returns-in_err-given g c =
-    let p = err_from_is_err_and c.from-residual.result c.from-residual.ensures.1 in
+    let p = err_from_is_err_and c.from_residual.result c.from_residual.ensures.1 in
     let all = page-read g.K.Key c.args.page.now c.next.new.self c.next.result c.next.ensures.read c.next.ensures.requested in
     let was = c.in_err-given.was ∙ ap Err (sym p.2) in
     let both = broken-read g.K.Key c.args.page.now c.next.new.self p.0 p.1 (all ∙ ap (λ a. page_by g.K.Key.reading (valued entry_of a) (page_left g.K.Key c.next.new.self)) was) in
@@ -27,7 +27,7 @@ returns-in_default g c =
 
 pub returns-in_err-entry_of : goal.returns-in_err-entry_of
 returns-in_err-entry_of g c =
-    let p = err_from_is_err_and c.from-residual-in_err-entry_of.result c.from-residual-in_err-entry_of.ensures.1 in
+    let p = err_from_is_err_and c.from_residual-in_err-entry_of.result c.from_residual-in_err-entry_of.ensures.1 in
     let all = page-read g.K.Key c.args.page.now c.next.new.self c.next.result c.next.ensures.read c.next.ensures.requested in
     let was = c.in_ok-given.was ∙ ap Ok c.in-Some.is in
     let entry = entry_of c.in-Some.given in

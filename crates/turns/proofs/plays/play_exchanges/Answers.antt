@@ -8,7 +8,7 @@ use Rattle.turns.proofs.plays.play_exchanges.Goals as goal
 
 pub returns-in_err-goal : goal.returns-in_err-goal
 returns-in_err-goal g c = λ asked page onward.
-    let p = err_from_is_err_and c.from-residual.result c.from-residual.ensures.1 in
+    let p = err_from_is_err_and c.from_residual.result c.from_residual.ensures.1 in
     let was = c.in_err-goal.was ∙ ap Err (sym p.2) in
     let next = move_taken asked page onward c.loop-goal.plan c.next_move.new.plan c.next_move.result c.next_move.ensures in
     so g.K.Key g.H.Line g.R.Line (c.loop-goal.invariant.2 asked page onward) (next ∙ faulted p.0 _ _ was p.1)
@@ -40,7 +40,7 @@ loop-goal-preserved g c =
 pub returns-in_err-said_of : goal.returns-in_err-said_of
 returns-in_err-said_of g c = λ asked page onward.
     let plan' = c.next_move.new.plan in
-    let p = err_from_is_err_and c.from-residual-in_err-said_of.result c.from-residual-in_err-said_of.ensures.1 in
+    let p = err_from_is_err_and c.from_residual-in_err-said_of.result c.from_residual-in_err-said_of.ensures.1 in
     let stop = c.in_err-said_of.was ∙ ap Err (sym p.2) in
     let was = c.in_ok-goal.was ∙ ap Ok c.in-Exchange.is in
     let done = exchange-made g.K.Key g.H.Line g.R.Line c.args.house.now c.loop-goal.rival c.exchange-done.new.rival c.loop-goal.bench.ledger c.exchange-done.new.self.ledger c.loop-goal.plan plan' c.next_move.result c.in-Exchange.place c.exchange-done.result c.passed.result c.said_of.result c.loop-goal.invariant.0 c.loop-goal.invariant.1 c.next_move.ensures was c.exchange-done.ensures c.passed.ensures.value c.said_of.ensures in

@@ -8,7 +8,7 @@ use Rattle.turns.proofs.plays.serve.Goals as goal
 
 pub returns-in_err-goal : goal.returns-in_err-goal
 returns-in_err-goal g c = λ onward.
-    let p = err_from_is_err_and c.from-residual.result c.from-residual.ensures.1 in
+    let p = err_from_is_err_and c.from_residual.result c.from_residual.ensures.1 in
     let was = c.in_err-goal.was ∙ ap Err (sym p.2) in
     so g.K.Key g.H.Line g.R.Line (c.play_exchanges.ensures (asked_of g.K.Key c.args.asked) c.args.page onward) (faulted p.0 _ _ was p.1)
 

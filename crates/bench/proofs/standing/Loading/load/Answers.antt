@@ -8,7 +8,7 @@ use Rattle.bench.proofs.standing.Loading.load.Goals as goal
 
 pub returns-in_err-admit_load : goal.returns-in_err-admit_load
 returns-in_err-admit_load g c =
-    let p = err_from_is_err_and c.from-residual.result c.from-residual.ensures.1 in
+    let p = err_from_is_err_and c.from_residual.result c.from_residual.ensures.1 in
     denied-call g.K.Key g.H.Line g.R.Line g.met.K.Key.decides (load (g.K.Key.value c.args.key)) c.args.house.now c.args.rival.now c.args.self.now.ledger p.0 c.requires.0 c.requires.1 p.1
     (admitted-err (load_failed g.K.Key g.H.Line g.R.Line c.args.key c.args.house.now c.args.rival.now) (next_places g.K.Key g.H.Line g.R.Line c.args.house.now c.args.rival.now) c.admit_load.ensures (c.in_err-admit_load.was ∙ ap Err (sym p.2)))
 

@@ -18,7 +18,7 @@ returns-then-self-eq-COUNTER_LIMIT g c =
 
 pub returns-in_err-exchange : goal.returns-in_err-exchange
 returns-in_err-exchange g c =
-    let p = err_from_is_err_and c.from-residual.result c.from-residual.ensures.1 in
+    let p = err_from_is_err_and c.from_residual.result c.from_residual.ensures.1 in
     let ks = g.R.Line.keys c.args.rival.now in
     let out = allowed-err (may_exchange c.args.place (length ks)) c.exchange.ensures.gives (c.in_err-exchange.was ∙ ap Err (sym p.2)) in
     let less : eqb c.args.self.now.ledger.paid most ≡ false = ne_eqb _ _ c.if-self-eq-COUNTER_LIMIT.false in

@@ -8,7 +8,7 @@ use Rattle.bench.proofs.standing.Running.lookup.Goals as goal
 
 pub returns-in_err-places : goal.returns-in_err-places
 returns-in_err-places g c =
-    let p = err_from_is_err_and c.from-residual.result c.from-residual.ensures.1 in
+    let p = err_from_is_err_and c.from_residual.result c.from_residual.ensures.1 in
     denied-call g.K.Key g.H.Line g.R.Line g.met.K.Key.decides (lookup (g.K.Key.value c.args.key) c.args.goal) c.args.house.now c.args.rival.now c.args.self.now.ledger p.0 c.requires.0 c.requires.1 p.1
     (admitted-err (failed g.K.Key g.H.Line g.R.Line (lookup (g.K.Key.value c.args.key) c.args.goal) c.args.house.now c.args.rival.now c.args.self.now.ledger) (places_of g.K.Key g.H.Line g.R.Line c.args.key c.args.house.now c.args.rival.now) c.admit_lookup.ensures (c.in_err-places.was ∙ ap Err (sym p.2)))
 
