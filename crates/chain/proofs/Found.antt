@@ -3,7 +3,7 @@ use Rattle.std.proofs.Common.{◌≡◌, ℕ, suc, ◌+◌, ◌<◌, Bool, true,
 use Rattle.std.proofs.lemmas.List.{get_or-map}
 use Rattle.lines.specs.Places.{stands, walk, place_of}
 use Rattle.chain.specs.declared.Cell.{Cell}
-use Rattle.chain.specs.Ways.{way, beyond, picked}
+use Rattle.chain.specs.Ways.{beyond, picked}
 use Rattle.chain.specs.Chains.{keys_in, nexts_in, chained}
 use Rattle.chain.proofs.Segments.{Runs, way_step}
 use Rattle.chain.proofs.Cells.{length-keys, length-nexts, read_next, walk-there, walk-on}

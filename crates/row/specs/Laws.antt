@@ -1,5 +1,5 @@
 -- What holds of each sound row: its implementation of the laws cites it.
-use Rattle.std.specs.Prelude.{ℕ, ◌≤◌, length}
+use Rattle.std.specs.Prelude.{◌≤◌, length}
 use Rattle.std.proofs.Common.{arith}
 use Rattle.std.proofs.lemmas.List.{length-take-le}
 use Rattle.row.specs.declared.Row.{Row}
