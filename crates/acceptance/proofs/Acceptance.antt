@@ -7,7 +7,7 @@ use Rattle.logs.specs.declared.fault.Fault.{Fault}
 use Rattle.logs.specs.declared.plans.Move.{Move}
 use Rattle.logs.specs.declared.plans.Move.TheVariants.{Exchange, Goal}
 use Rattle.logs.specs.Framing.{versioned, lettered_in}
-use Rattle.logs.specs.Pages.{Asked, Entry, first, request, page_records}
+use Rattle.logs.specs.Items.{Asked, Item, first, request, page_items}
 use Rattle.logs.specs.Plans.{plan_moves}
 use Rattle.acceptance.specs.Scripts.{Spelled, Script, calling, request_call, goal_fits, requesting, asking, ending, serving, loading, headed, script_of}
 use Rattle.acceptance.specs.Judgement.{lastly, settling, played_from, played, judged}
@@ -27,7 +27,7 @@ fault_of script = script.fault
 abbrev Onward : Type 0 → Type 0
 Onward V = ℕ → List Move → Option Denial → Script V
 
-abbrev requests : {V : Type 0} → List (Turn V) → List (Entry V)
+abbrev requests : {V : Type 0} → List (Turn V) → List (Item V)
 requests = map (λ turn. request turn.asked)
 
 -- a script has no fault, and these are its calls
@@ -125,7 +125,7 @@ module _ {V : Type 0} where
       record { whole = p.whole; makes = ap (λ cs. exchange place ∷ cs) p.makes }
 
   -- the turns that records and moves spell together
-  record Takes (entries : List (Entry V)) (broken : Option Denial) (moves : List Move) (fault : Option Denial) (script : Script V) : Type 0 where
+  record Takes (entries : List (Item V)) (broken : Option Denial) (moves : List Move) (fault : Option Denial) (script : Script V) : Type 0 where
     turns : List (Turn V)
     asks : entries ≡ requests turns
     unbroken : broken ≡ None
@@ -141,7 +141,7 @@ module _ {V : Type 0} where
   ending-takes read [] (Some denial) e = no-fault _ e
   ending-takes read (move ∷ moves) fault e = no-fault _ e
 
-  serving-takes : (passed : ℕ) (entries : List (Entry V)) (broken : Option Denial)
+  serving-takes : (passed : ℕ) (entries : List (Item V)) (broken : Option Denial)
       (read : ℕ) (moves : List Move) (fault : Option Denial)
       → (serving passed entries broken read moves fault).fault ≡ None
       → Takes entries broken moves fault (serving passed entries broken read moves fault)
@@ -174,7 +174,7 @@ module _ {V : Type 0} where
       (asking-plays turn (suc passed) onward read turn.exchanges (all_moves turns) _ fits.0 behind)
 
   -- and with the first keys
-  record Spells (entries : List (Entry V)) (broken : Option Denial) (moves : List Move) (fault : Option Denial) (script : Script V) : Type 0 where
+  record Spells (entries : List (Item V)) (broken : Option Denial) (moves : List Move) (fault : Option Denial) (script : Script V) : Type 0 where
     firsts : List V
     turns : List (Turn V)
     asks : entries ≡ whole_entries firsts turns
@@ -184,7 +184,7 @@ module _ {V : Type 0} where
     fits : AllFit turns
     makes : calls_of script ≡ whole_calls firsts turns
 
-  started : (entries : List (Entry V)) (broken : Option Denial) (moves : List Move) (fault : Option Denial) (script : Script V)
+  started : (entries : List (Item V)) (broken : Option Denial) (moves : List Move) (fault : Option Denial) (script : Script V)
       → Takes entries broken moves fault script → Spells entries broken moves fault (calling start 0 0 script)
   started entries broken moves fault script t = record {
     firsts = [];
@@ -197,7 +197,7 @@ module _ {V : Type 0} where
     makes = ap (λ cs. start ∷ cs) t.makes;
   }
 
-  loading-spells : (passed : ℕ) (entries : List (Entry V)) (broken : Option Denial) (moves : List Move) (fault : Option Denial)
+  loading-spells : (passed : ℕ) (entries : List (Item V)) (broken : Option Denial) (moves : List Move) (fault : Option Denial)
       → (loading passed entries broken moves fault).fault ≡ None
       → Spells entries broken moves fault (loading passed entries broken moves fault)
   loading-spells passed [] None moves fault e = started [] None moves fault (ending 0 moves fault) (ending-takes 0 moves fault e)
@@ -231,17 +231,17 @@ module _ {V : Type 0} where
   -- and behind the headers
   headed-spells : (reading : List ℕ → Option V) (page plan : Result (List ℕ) Denial) → (headed reading page plan).fault ≡ None
       → (p q : List ℕ) × (page ≡ Ok p) × (plan ≡ Ok q)
-      × Spells (page_records reading p).0 (page_records reading p).1 (plan_moves q).0 (plan_moves q).1 (headed reading page plan)
+      × Spells (page_items reading p).0 (page_items reading p).1 (plan_moves q).0 (plan_moves q).1 (headed reading page plan)
   headed-spells reading (Err denial) plan e = no-fault _ e
   headed-spells reading (Ok page) (Err denial) e = no-fault _ e
   headed-spells reading (Ok page) (Ok plan) e =
-      let (entries, broken) = page_records reading page in
+      let (entries, broken) = page_items reading page in
       let (moves, fault) = plan_moves plan in
       (page, plan, refl, refl, loading-spells 0 entries broken moves fault e)
 
   headed-plays : (reading : List ℕ → Option V) (page plan : Result (List ℕ) Denial) (p q : List ℕ)
       (firsts : List V) (turns : List (Turn V)) → page ≡ Ok p → plan ≡ Ok q
-      → page_records reading p ≡ (whole_entries firsts turns, None) → plan_moves q ≡ (all_moves turns, None) → AllFit turns
+      → page_items reading p ≡ (whole_entries firsts turns, None) → plan_moves q ≡ (all_moves turns, None) → AllFit turns
       → Plays (headed reading page plan) (whole_calls firsts turns)
   headed-plays reading page plan p q firsts turns page_head plan_head records moves fits =
       rw (page_head, plan_head, records, moves) (loading-plays firsts turns 0 fits)

@@ -4,8 +4,8 @@ use Rattle.reckoning.specs.Reckoning.{Sums, State, Limits, Call, exchange, close
 use Rattle.reckoning.specs.Twice.{Twice}
 use Rattle.reckoning.specs.Floor.{floor_of, Demand, load_of, lookup_of, add_of, remove_of, demanded, unless_denied, granted_from, granted, NoneBelow}
 use Rattle.reckoning.proofs.Bound.{twice-law, floor-law}
-use Rattle.logs.specs.Pages.{Asked, Entry, first, request, page_records}
-use Rattle.logs.specs.Pages.{lookup as looks_up, add as adds, remove as removes}
+use Rattle.logs.specs.Items.{Asked, Item, first, request, page_items}
+use Rattle.logs.specs.Items.{lookup as looks_up, add as adds, remove as removes}
 use Rattle.acceptance.specs.Scripts.{request_call}
 use Rattle.acceptance.specs.Accepted.{PageSpells, Turn, turn_calls, all_calls, whole_calls, whole_entries, NoneDenied, Accepted}
 
@@ -16,7 +16,7 @@ module _ {V : Type 0} where
   asked_demand (adds v) = add_of v
   asked_demand (removes v) = remove_of v
 
-  entry_demand : Entry V → Demand V
+  entry_demand : Item V → Demand V
   entry_demand (first v) = load_of v
   entry_demand (request asked) = asked_demand asked
 
@@ -52,10 +52,10 @@ module _ {V : Type 0} where
   whole-demands (v ∷ firsts) turns = ap (λ ds. load_of v ∷ ds) (whole-demands firsts turns)
 
   -- a page log spells one list of records
-  page-spells-one : (reading : List ℕ → Option V) (letter : ℕ) (page : List ℕ) (entries entries' : List (Entry V)) → PageSpells reading letter page entries → PageSpells reading letter page entries' → entries ≡ entries'
+  page-spells-one : (reading : List ℕ → Option V) (letter : ℕ) (page : List ℕ) (entries entries' : List (Item V)) → PageSpells reading letter page entries → PageSpells reading letter page entries' → entries ≡ entries'
   page-spells-one reading letter page entries entries' a b =
       let same : a.0 ≡ b.0 = let x = a.1 in let y = b.1 in cc in
-      let all = sym a.2 ∙ ap (page_records reading) same ∙ b.2 in
+      let all = sym a.2 ∙ ap (page_items reading) same ∙ b.2 in
       ap (λ p. p.0) all
 
 module _ {V : Type 0} (equal : V → V → Bool) where

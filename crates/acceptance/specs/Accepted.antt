@@ -4,14 +4,14 @@ use Rattle.reckoning.specs.Reckoning.{Sums, State, Limits, Call, load, start, ex
 use Rattle.logs.specs.declared.plans.Move.{Move}
 use Rattle.logs.specs.declared.plans.Move.TheVariants.{Exchange, Goal}
 use Rattle.logs.specs.Framing.{versioned, lettered_in}
-use Rattle.logs.specs.Pages.{Asked, Entry, first, request, page_records}
+use Rattle.logs.specs.Items.{Asked, Item, first, request, page_items}
 use Rattle.logs.specs.Plans.{plan_moves}
 use Rattle.acceptance.specs.Scripts.{request_call, goal_fits}
 use Rattle.acceptance.specs.Judgement.{judged}
 
 -- a log spells records: its header is right, and these are its records up to its end
-abbrev pub PageSpells : {V : Type 0} → (List ℕ → Option V) → ℕ → List ℕ → List (Entry V) → Type 0
-PageSpells reading letter page entries = (body : List ℕ) × (lettered_in letter (versioned page) ≡ Ok body) × (page_records reading body ≡ (entries, None))
+abbrev pub PageSpells : {V : Type 0} → (List ℕ → Option V) → ℕ → List ℕ → List (Item V) → Type 0
+PageSpells reading letter page entries = (body : List ℕ) × (lettered_in letter (versioned page) ≡ Ok body) × (page_items reading body ≡ (entries, None))
 
 abbrev pub PlanSpells : List ℕ → List Move → Type 0
 PlanSpells plan moves = (body : List ℕ) × (versioned plan ≡ Ok body) × (plan_moves body ≡ (moves, None))
@@ -44,7 +44,7 @@ module _ {V : Type 0} where
   whole_calls firsts turns = map load firsts ++ start ∷ (all_calls turns ++ close ∷ [])
 
   -- the page's records
-  abbrev pub whole_entries : List V → List (Turn V) → List (Entry V)
+  abbrev pub whole_entries : List V → List (Turn V) → List (Item V)
   whole_entries firsts turns = map first firsts ++ map (λ (turn : Turn V). request turn.asked) turns
 
   -- each goal fits its request

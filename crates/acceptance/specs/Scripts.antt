@@ -9,8 +9,8 @@ use Rattle.logs.specs.declared.fault.Fault.{Fault}
 use Rattle.logs.specs.declared.plans.Move.{Move}
 use Rattle.logs.specs.declared.plans.Move.TheVariants.{Exchange, Goal}
 use Rattle.logs.specs.Framing.{versioned, lettered_in}
-use Rattle.logs.specs.Pages.{Asked, Entry, first, request, page_records}
-use Rattle.logs.specs.Pages.{lookup as looks_up, add as adds, remove as removes}
+use Rattle.logs.specs.Items.{Asked, Item, first, request, page_items}
+use Rattle.logs.specs.Items.{lookup as looks_up, add as adds, remove as removes}
 use Rattle.logs.specs.Plans.{plan_moves}
 
 -- a call, and the numbers of the page's and the plan's record that it is read from, or 0; start and close are read from none
@@ -66,14 +66,14 @@ module _ {V : Type 0} where
   ending read (move ∷ moves) fault = faulty Plan (suc read) Misfit
 
   -- requests up to the page's end or fault, behind so many passed records; no first key may follow one
-  abbrev pub serving : ℕ → List (Entry V) → Option Denial → ℕ → List Move → Option Denial → Script V
+  abbrev pub serving : ℕ → List (Item V) → Option Denial → ℕ → List Move → Option Denial → Script V
   serving passed [] None read moves fault = ending read moves fault
   serving passed [] (Some denial) read moves fault = faulty Page (suc passed) denial
   serving passed (first v ∷ entries) broken read moves fault = faulty Page (suc passed) Layout
   serving passed (request asked ∷ entries) broken read moves fault = asking asked (suc passed) (serving (suc passed) entries broken) read moves fault
 
   -- first keys are loaded, and then the bench is started
-  abbrev pub loading : ℕ → List (Entry V) → Option Denial → List Move → Option Denial → Script V
+  abbrev pub loading : ℕ → List (Item V) → Option Denial → List Move → Option Denial → Script V
   loading passed [] None moves fault = calling start 0 0 (ending 0 moves fault)
   loading passed [] (Some denial) moves fault = faulty Page (suc passed) denial
   loading passed (first v ∷ entries) broken moves fault = calling (load v) (suc passed) 0 (loading (suc passed) entries broken moves fault)
@@ -83,7 +83,7 @@ module _ {V : Type 0} where
   abbrev pub headed : (List ℕ → Option V) → Result (List ℕ) Denial → Result (List ℕ) Denial → Script V
   headed reading (Err denial) plan = faulty Page 0 denial
   headed reading (Ok page) (Err denial) = faulty Plan 0 denial
-  headed reading (Ok page) (Ok plan) = loading 0 (page_records reading page).0 (page_records reading page).1 (plan_moves plan).0 (plan_moves plan).1
+  headed reading (Ok page) (Ok plan) = loading 0 (page_items reading page).0 (page_items reading page).1 (plan_moves plan).0 (plan_moves plan).1
 
   -- the script of two logs, for a kind of key by its readings and its letter
   abbrev pub script_of : (List ℕ → Option V) → ℕ → List ℕ → List ℕ → Script V

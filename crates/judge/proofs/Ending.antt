@@ -7,7 +7,7 @@ use Rattle.reckoning.specs.Reckoning.{close}
 use Rattle.logs.specs.declared.fault.Log.TheVariants.{Plan}
 use Rattle.logs.specs.declared.plans.PlanReader.{PlanReader}
 use Rattle.logs.specs.declared.plans.Move.{Move}
-use Rattle.logs.specs.Framing.{left_of, passed_of}
+use Rattle.logs.specs.Cursors.{left_of, passed_of}
 use Rattle.logs.specs.Plans.{plan_moves}
 use Rattle.logs.proofs.Whole.{plan-left}
 use Rattle.acceptance.specs.Scripts.{fault_on, faulty, calling, ending}

@@ -11,8 +11,8 @@ use Rattle.logs.specs.declared.fault.Log.TheVariants.{Page}
 use Rattle.logs.specs.declared.fault.Fault.{Fault}
 use Rattle.logs.specs.declared.pages.PageReader.{PageReader}
 use Rattle.logs.specs.declared.plans.Move.{Move}
-use Rattle.logs.specs.Framing.{left_of, passed_of}
-use Rattle.logs.specs.Pages.{Entry}
+use Rattle.logs.specs.Cursors.{left_of, passed_of}
+use Rattle.logs.specs.Items.{Item}
 use Rattle.turns.specs.declared.entry.Asked.{Asked as ReadRequest}
 use Rattle.turns.specs.declared.entry.Entry.{Entry as ReadRecord}
 use Rattle.turns.specs.declared.entry.Entry.TheVariants.{First, Request}
@@ -47,7 +47,7 @@ module _ {K : Type 0} (key : KeyMeaning K) where
     pub entry-loaded : (answer : Result (Option (ReadRecord K)) Denial) → page_left key page ≡ read_by key answer (page_left key page') → Advanced answer page page' → (said : Result (Option (ReadRecord K)) Fault) → said ≡ said_of Page at answer
         → (plan : List Move × Option Denial) → loading_from key page plan ≡ resuming said (λ next. entering_from at next page' plan)
     entry-loaded answer read a said s plan =
-        ap (λ (left : List (Entry key.Value) × Option Denial). loading (passed_of page.cursor) left.0 left.1 plan.0 plan.1) read
+        ap (λ (left : List (Item key.Value) × Option Denial). loading (passed_of page.cursor) left.0 left.1 plan.0 plan.1) read
         ∙ entered plan answer a
         ∙ ap (λ said. resuming said (λ next. entering_from at next page' plan)) (sym s)
 
@@ -78,7 +78,7 @@ module _ {K : Type 0} (key : KeyMeaning K) where
     pub request-read : (answer : Result (Option (ReadRecord K)) Denial) → page_left key page ≡ read_by key answer (page_left key page') → Advanced answer page page' → (result : Result (Option (ReadRequest K)) Fault) → result ≡ request_by at answer → ReadOn key result page page'
     request-read answer left a result e = record {
       onward = λ read plan.
-          ap (λ (left : List (Entry key.Value) × Option Denial). serving (passed_of page.cursor) left.0 left.1 read plan.0 plan.1) left
+          ap (λ (left : List (Item key.Value) × Option Denial). serving (passed_of page.cursor) left.0 left.1 read plan.0 plan.1) left
           ∙ requested read plan answer a
           ∙ ap (λ r. resuming r (λ next. awaiting_from key next page' read plan)) (sym e);
       fewer = λ asked f. fewer-some answer a asked (sym e ∙ f);

@@ -8,7 +8,7 @@ use Rattle.bench.specs.declared.ledger.Ledger.{Ledger}
 use Rattle.logs.specs.declared.fault.Fault.{Fault}
 use Rattle.logs.specs.declared.pages.PageReader.{PageReader}
 use Rattle.logs.specs.declared.plans.PlanReader.{PlanReader}
-use Rattle.logs.specs.Framing.{left_of, passed_of}
+use Rattle.logs.specs.Cursors.{left_of, passed_of}
 use Rattle.turns.specs.declared.entry.Asked.{Asked as ReadRequest}
 use Rattle.acceptance.specs.Scripts.{Script, calling, ending}
 use Rattle.turns.specs.Onward.{plan_left, left_over, resuming, going_from, loading_from, awaiting_from, Continues, Loads, PlayedOut}

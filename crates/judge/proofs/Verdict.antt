@@ -15,8 +15,9 @@ use Rattle.logs.specs.declared.fault.Log.TheVariants.{Page}
 use Rattle.logs.specs.declared.fault.Fault.{Fault}
 use Rattle.logs.specs.declared.pages.PageReader.{PageReader}
 use Rattle.logs.specs.declared.plans.PlanReader.{PlanReader}
-use Rattle.logs.specs.Framing.{versioned, lettered_in, left_of, passed_of}
-use Rattle.logs.specs.Pages.{page_records, page_records_from}
+use Rattle.logs.specs.Framing.{versioned, lettered_in}
+use Rattle.logs.specs.Cursors.{left_of, passed_of}
+use Rattle.logs.specs.Items.{page_items, page_items_from}
 use Rattle.logs.specs.Plans.{plan_moves}
 use Rattle.acceptance.specs.Scripts.{fault_on, headed, loading, script_of}
 use Rattle.acceptance.specs.Judgement.{judged, played}
@@ -127,8 +128,8 @@ module _ {K H R : Type 0} (key : KeyMeaning K) (house : LineMeaning H K) (rival 
   script-read page plan reader reader' e requested passed f =
       ap (λ head. headed key.reading head (versioned plan)) e
       ∙ ap (headed key.reading (Ok (left_of reader.cursor))) f
-      ∙ ap (λ n. loading n (page_records key.reading (left_of reader.cursor)).0 (page_records key.reading (left_of reader.cursor)).1 (plan_moves (left_of reader'.cursor)).0 (plan_moves (left_of reader'.cursor)).1) (sym passed)
-      ∙ ap (λ b. loading (passed_of reader.cursor) (page_records_from key.reading b (left_of reader.cursor)).0 (page_records_from key.reading b (left_of reader.cursor)).1 (plan_moves (left_of reader'.cursor)).0 (plan_moves (left_of reader'.cursor)).1) (sym requested)
+      ∙ ap (λ n. loading n (page_items key.reading (left_of reader.cursor)).0 (page_items key.reading (left_of reader.cursor)).1 (plan_moves (left_of reader'.cursor)).0 (plan_moves (left_of reader'.cursor)).1) (sym passed)
+      ∙ ap (λ b. loading (passed_of reader.cursor) (page_items_from key.reading b (left_of reader.cursor)).0 (page_items_from key.reading b (left_of reader.cursor)).1 (plan_moves (left_of reader'.cursor)).0 (plan_moves (left_of reader'.cursor)).1) (sym requested)
 
   -- and what was judged of them
   last-played : (h' : H) (r' : R) (ledger' : Ledger) (answer : Result Ledger Fault)

@@ -1,6 +1,6 @@
 // The judge.
 ghost use Rattle.std.specs.Prelude.{◌≡◌, ◌+◌};
-ghost use Rattle.logs.specs.Framing.{left_of, passed_of};
+ghost use Rattle.logs.specs.Cursors.{left_of, passed_of};
 ghost use Rattle.turns.specs.Onward.{left_over, PlayedOut};
 ghost use Rattle.judge.specs.Verdicts.{Judged};
 

@@ -12,8 +12,9 @@ use Rattle.logs.specs.declared.fault.Fault.{Fault}
 use Rattle.logs.specs.declared.plans.PlanReader.{PlanReader}
 use Rattle.logs.specs.declared.plans.Move.{Move}
 use Rattle.logs.specs.declared.plans.Move.TheVariants.{Exchange, Goal}
-use Rattle.logs.specs.Framing.{gained, left_of, passed_of}
-use Rattle.logs.specs.Pages.{Asked}
+use Rattle.logs.specs.Framing.{gained}
+use Rattle.logs.specs.Cursors.{left_of, passed_of}
+use Rattle.logs.specs.Items.{Asked}
 use Rattle.logs.specs.Plans.{plan_move}
 use Rattle.logs.specs.Plans.{plan_by}
 use Rattle.logs.proofs.Whole.{read-fewer}

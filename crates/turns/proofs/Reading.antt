@@ -6,15 +6,16 @@ use Rattle.logs.specs.declared.pages.PageReader.{PageReader}
 use Rattle.logs.specs.declared.pages.PageRecord.{PageRecord}
 use Rattle.logs.specs.declared.plans.PlanReader.{PlanReader}
 use Rattle.logs.specs.declared.plans.Move.{Move}
-use Rattle.logs.specs.Framing.{read_next, valued, left_of}
+use Rattle.logs.specs.Framing.{read_next, valued}
+use Rattle.logs.specs.Cursors.{left_of}
 use Rattle.logs.specs.Records.{with}
-use Rattle.logs.specs.Pages.{Entry, entry_of, page_entry, requested_by, valued_with}
+use Rattle.logs.specs.Pages.{Entry, entry_of, page_entry, requested_by}
 use Rattle.logs.specs.Plans.{plan_move}
-use Rattle.logs.specs.Pages.{page_by}
+use Rattle.logs.specs.Items.{Item, valued_with, page_by}
 use Rattle.logs.specs.Plans.{plan_by}
 use Rattle.logs.proofs.Whole.{page-next, plan-next}
 use Rattle.turns.specs.declared.entry.Entry.{Entry as ReadRecord}
-use Rattle.turns.specs.Onward.{plan_left, page_left, entry_by, read_by, Advanced}
+use Rattle.turns.specs.Onward.{plan_left, page_left, item_by, read_by, Advanced}
 
 pub plan-read : (plan plan' : PlanReader) (answer : Result (Option Move) Denial)
     → read_next plan_move (left_of plan.cursor) ≡ (answer, left_of plan'.cursor) → plan_left plan ≡ plan_by answer (plan_left plan')
@@ -30,13 +31,13 @@ module _ {K : Type 0} (key : KeyMeaning K) where
   page-read page page' answer e r = page-next key.reading page.requested page'.requested (left_of page.cursor) (left_of page'.cursor) (valued entry_of answer) e r
 
   -- a record whose key has a value, and one whose key has none
-  pub valued-ok : (entry : Entry (List ℕ)) (o : Option key.Value) (given : Entry key.Value) (behind : List (Entry key.Value) × Option Denial)
-      → entry_by key entry o ≡ Ok given → valued_with entry o behind ≡ with given behind
-  valued-ok entry (Some v) given behind e = let same : ◌≡◌ {A = Entry key.Value} _ given = cc in ap (λ g. with g behind) same
+  pub valued-ok : (entry : Entry) (o : Option key.Value) (given : Item key.Value) (behind : List (Item key.Value) × Option Denial)
+      → item_by key entry o ≡ Ok given → valued_with entry o behind ≡ with given behind
+  valued-ok entry (Some v) given behind e = let same : ◌≡◌ {A = Item key.Value} _ given = cc in ap (λ g. with g behind) same
   valued-ok entry None given behind e = let z : ◌≡◌ {A = ℕ} 0 1 = cc in absurd (omega arith)
 
-  pub valued-err : (entry : Entry (List ℕ)) (o : Option key.Value) (denial : Denial) (behind : List (Entry key.Value) × Option Denial)
-      → entry_by key entry o ≡ Err denial → valued_with entry o behind ≡ ([], Some denial)
+  pub valued-err : (entry : Entry) (o : Option key.Value) (denial : Denial) (behind : List (Item key.Value) × Option Denial)
+      → item_by key entry o ≡ Err denial → valued_with entry o behind ≡ ([], Some denial)
   valued-err entry (Some v) denial behind e = let z : ◌≡◌ {A = ℕ} 0 1 = cc in absurd (omega arith)
   valued-err entry None denial behind e = cc
 

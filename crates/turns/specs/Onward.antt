@@ -14,9 +14,11 @@ use Rattle.logs.specs.declared.fault.Fault.{Fault}
 use Rattle.logs.specs.declared.pages.PageReader.{PageReader}
 use Rattle.logs.specs.declared.plans.PlanReader.{PlanReader}
 use Rattle.logs.specs.declared.plans.Move.{Move}
-use Rattle.logs.specs.Framing.{read_next, gained, left_of, passed_of}
+use Rattle.logs.specs.Framing.{read_next, gained}
+use Rattle.logs.specs.Cursors.{left_of, passed_of}
 use Rattle.logs.specs.Records.{with}
-use Rattle.logs.specs.Pages.{Asked, Entry, lookup, add, remove, first, request, asked_key, asked_with, key_of, entry_with, page_records_from}
+use Rattle.logs.specs.Pages.{Entry}
+use Rattle.logs.specs.Items.{Asked, Item, lookup, add, remove, first, request, item, page_items_from}
 use Rattle.logs.specs.Plans.{plan_move, plan_moves}
 use Rattle.turns.specs.declared.entry.Asked.{Asked as ReadRequest}
 use Rattle.turns.specs.declared.entry.Asked.TheVariants.{Lookup, Add, Remove}
@@ -57,8 +59,8 @@ unfoldable pub plan_left : PlanReader → List Move × Option Denial
 plan_left plan = plan_moves (left_of plan.cursor)
 
 module _ {K : Type 0} (key : KeyMeaning K) where
-  unfoldable pub page_left : PageReader → List (Entry key.Value) × Option Denial
-  page_left page = page_records_from key.reading page.requested (left_of page.cursor)
+  unfoldable pub page_left : PageReader → List (Item key.Value) × Option Denial
+  page_left page = page_items_from key.reading page.requested (left_of page.cursor)
 
   -- records by the values of their keys
   abbrev pub asked_of : ReadRequest K → Asked key.Value
@@ -66,29 +68,22 @@ module _ {K : Type 0} (key : KeyMeaning K) where
   asked_of (Add k) = add (key.value k)
   asked_of (Remove k) = remove (key.value k)
 
-  abbrev pub entry_value : ReadRecord K → Entry key.Value
-  entry_value (First k) = first (key.value k)
-  entry_value (Request asked) = request (asked_of asked)
+  abbrev pub item_of : ReadRecord K → Item key.Value
+  item_of (First k) = first (key.value k)
+  item_of (Request asked) = request (asked_of asked)
 
-  -- a record by its key's spelling, with the value that the spelling has
-  abbrev pub asked_by : Asked (List ℕ) → Option key.Value → Result (Asked key.Value) Denial
-  asked_by asked (Some v) = Ok (asked_with v asked)
-  asked_by asked None = Err Layout
+  -- a record by the value that its spelling has
+  abbrev pub item_by : Entry → Option key.Value → Result (Item key.Value) Denial
+  item_by entry (Some v) = Ok (item entry.asks v)
+  item_by entry None = Err Layout
 
-  abbrev pub read_asked : Asked (List ℕ) → Result (Asked key.Value) Denial
-  read_asked asked = asked_by asked (key.reading (asked_key asked))
-
-  abbrev pub entry_by : Entry (List ℕ) → Option key.Value → Result (Entry key.Value) Denial
-  entry_by entry (Some v) = Ok (entry_with v entry)
-  entry_by entry None = Err Layout
-
-  abbrev pub read_entry : Entry (List ℕ) → Result (Entry key.Value) Denial
-  read_entry entry = entry_by entry (key.reading (key_of entry))
+  abbrev pub read_item : Entry → Result (Item key.Value) Denial
+  read_item entry = item_by entry (key.reading entry.spelling)
 
   -- what was left of a page, by what was read next and what is left behind it
-  abbrev pub read_by : Result (Option (ReadRecord K)) Denial → List (Entry key.Value) × Option Denial → List (Entry key.Value) × Option Denial
+  abbrev pub read_by : Result (Option (ReadRecord K)) Denial → List (Item key.Value) × Option Denial → List (Item key.Value) × Option Denial
   read_by (Ok None) behind = ([], None)
-  read_by (Ok (Some entry)) behind = with (entry_value entry) behind
+  read_by (Ok (Some entry)) behind = with (item_of entry) behind
   read_by (Err denial) behind = ([], Some denial)
 
 -- a record that was read is counted, and fewer bytes are left
@@ -111,7 +106,7 @@ module _ {V : Type 0} where
   going_from onward plan = onward (passed_of plan.cursor) (plan_left plan).0 (plan_left plan).1
 
   -- the script from a request that was read, or from the page's end where none was
-  abbrev pub awaiting : Option (Asked V) → ℕ → List (Entry V) × Option Denial → ℕ → List Move × Option Denial → Script V
+  abbrev pub awaiting : Option (Asked V) → ℕ → List (Item V) × Option Denial → ℕ → List Move × Option Denial → Script V
   awaiting None passed page read plan = ending read plan.0 plan.1
   awaiting (Some asked) passed page read plan = asking asked passed (serving passed page.0 page.1) read plan.0 plan.1
 

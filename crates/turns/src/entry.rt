@@ -2,7 +2,8 @@
 ghost use Rattle.std.specs.Prelude.{◌≡◌, length};
 ghost use Rattle.keys.specs.Spelling.{meant};
 ghost use Rattle.logs.specs.Pages.{request_of, entry_of};
-ghost use Rattle.turns.specs.Onward.{page_left, read_by, asked_of, entry_value, read_asked, read_entry, Advanced};
+ghost use Rattle.logs.specs.Items.{request};
+ghost use Rattle.turns.specs.Onward.{page_left, read_by, asked_of, item_of, read_item, Advanced};
 
 use keys::{Denial, Key};
 use logs::{PageReader, PageRecord, Request};
@@ -24,7 +25,7 @@ pub enum Entry<K> {
 
 // A request by its key.
 fn asked_of<K: Key>(request: Request<'_>) -> Result<Asked<K>, Denial>
-    ensures { meant (asked_of K.Key) result ≡ read_asked K.Key (request_of request.entry) }
+    ensures { meant (λ asked. request (asked_of K.Key asked)) result ≡ read_item K.Key (request_of request.entry) }
 {
     let key = K::read(request.spelling())?;
     match request {
@@ -36,7 +37,7 @@ fn asked_of<K: Key>(request: Request<'_>) -> Result<Asked<K>, Denial>
 
 // A page record by its key.
 fn entry_of<K: Key>(given: PageRecord<'_>) -> Result<Entry<K>, Denial>
-    ensures { meant (entry_value K.Key) result ≡ read_entry K.Key (entry_of given.entry) }
+    ensures { meant (item_of K.Key) result ≡ read_item K.Key (entry_of given.entry) }
 {
     match given {
         PageRecord::First(spelling) => Ok(Entry::First(K::read(spelling)?)),

@@ -4,7 +4,8 @@ use Rattle.keys.specs.Spelling.{meant}
 use Rattle.logs.specs.declared.fault.Log.TheVariants.{Page, Plan}
 use Rattle.logs.specs.declared.pages.PageReader.{PageReader}
 use Rattle.logs.specs.declared.plans.PlanReader.{PlanReader}
-use Rattle.logs.specs.Framing.{versioned, left_of, passed_of}
+use Rattle.logs.specs.Framing.{versioned}
+use Rattle.logs.specs.Cursors.{left_of, passed_of}
 use Rattle.reckoning.specs.Reckoning.{empty}
 use Rattle.bench.specs.Benches.{limits_of}
 use Rattle.acceptance.specs.Scripts.{fault_on, headed}

@@ -1,7 +1,7 @@
 use Rattle.std.proofs.Common.{List, length, Option}
 use Rattle.keys.specs.declared.denial.Denial.{Denial}
 use Rattle.logs.specs.declared.plans.Move.{Move}
-use Rattle.logs.specs.Framing.{left_of}
+use Rattle.logs.specs.Cursors.{left_of}
 use Rattle.turns.specs.Onward.{loading_from, Continues}
 use Rattle.judge.proofs.pages.load_all.Given as goal
 

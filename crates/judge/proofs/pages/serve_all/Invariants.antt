@@ -1,5 +1,5 @@
 use Rattle.std.proofs.Common.{◌+◌, cond, length, is_some}
-use Rattle.logs.specs.Framing.{left_of, passed_of}
+use Rattle.logs.specs.Cursors.{left_of, passed_of}
 use Rattle.turns.specs.Onward.{awaiting_from, plan_left, Continues}
 use Rattle.judge.proofs.pages.serve_all.Given as goal
 

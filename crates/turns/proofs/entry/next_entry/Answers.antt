@@ -1,10 +1,12 @@
 use Rattle.std.proofs.Common.{Ok, Err, sym, ap, ◌∙◌, arith}
 use Rattle.std.proofs.lemmas.Result.{err_from_is_err_and}
 use Rattle.keys.specs.Spelling.{meant}
-use Rattle.logs.specs.Framing.{valued, gained, left_of}
-use Rattle.logs.specs.Pages.{entry_of, key_of, page_entry, page_by}
+use Rattle.logs.specs.Framing.{valued, gained}
+use Rattle.logs.specs.Cursors.{left_of}
+use Rattle.logs.specs.Pages.{entry_of, page_entry}
+use Rattle.logs.specs.Items.{page_by}
 use Rattle.logs.proofs.Whole.{read-fewer, read-ended}
-use Rattle.turns.specs.Onward.{page_left, entry_value}
+use Rattle.turns.specs.Onward.{page_left, item_of}
 use Rattle.turns.proofs.Reading.{page-read, valued-ok, valued-err, broken-read}
 use Rattle.turns.proofs.entry.next_entry.Goals as goal
 
@@ -31,8 +33,8 @@ returns-in_err-entry_of g c =
     let all = page-read g.K.Key c.args.page.now c.next.new.self c.next.result c.next.ensures.read c.next.ensures.requested in
     let was = c.in_ok-given.was ∙ ap Ok c.in-Some.is in
     let entry = entry_of c.in-Some.given in
-    let denied = sym c.entry_of.ensures ∙ ap (meant (entry_value g.K.Key)) (c.in_err-entry_of.was ∙ ap Err (sym p.2)) in
-    let broken = valued-err g.K.Key entry (g.K.Key.reading (key_of entry)) p.0 (page_left g.K.Key c.next.new.self) denied in
+    let denied = sym c.entry_of.ensures ∙ ap (meant (item_of g.K.Key)) (c.in_err-entry_of.was ∙ ap Err (sym p.2)) in
+    let broken = valued-err g.K.Key entry (g.K.Key.reading entry.spelling) p.0 (page_left g.K.Key c.next.new.self) denied in
     let both = broken-read g.K.Key c.args.page.now c.next.new.self p.0 p.1 (all ∙ ap (λ a. page_by g.K.Key.reading (valued entry_of a) (page_left g.K.Key c.next.new.self)) was ∙ broken) in
     record { read = both.0; advanced = both.1 }
 
@@ -41,8 +43,8 @@ returns g c =
     let all = page-read g.K.Key c.args.page.now c.next.new.self c.next.result c.next.ensures.read c.next.ensures.requested in
     let was = c.in_ok-given.was ∙ ap Ok c.in-Some.is in
     let entry = entry_of c.in-Some.given in
-    let given = sym c.entry_of.ensures ∙ ap (meant (entry_value g.K.Key)) c.in_ok-entry_of.was in
-    let whole = valued-ok g.K.Key entry (g.K.Key.reading (key_of entry)) (entry_value g.K.Key c.in_ok-entry_of.field-0) (page_left g.K.Key c.next.new.self) given in
+    let given = sym c.entry_of.ensures ∙ ap (meant (item_of g.K.Key)) c.in_ok-entry_of.was in
+    let whole = valued-ok g.K.Key entry (g.K.Key.reading entry.spelling) (item_of g.K.Key c.in_ok-entry_of.field-0) (page_left g.K.Key c.next.new.self) given in
     record {
       read = all ∙ ap (λ a. page_by g.K.Key.reading (valued entry_of a) (page_left g.K.Key c.next.new.self)) was ∙ whole;
       advanced = (

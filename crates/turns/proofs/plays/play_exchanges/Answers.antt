@@ -1,6 +1,6 @@
 use Rattle.std.proofs.Common.{Ok, Err, sym, ap, ◌∙◌}
 use Rattle.std.proofs.lemmas.Result.{err_from_is_err_and}
-use Rattle.logs.specs.Framing.{passed_of}
+use Rattle.logs.specs.Cursors.{passed_of}
 use Rattle.turns.specs.Onward.{plan_left, resuming, asking_from}
 use Rattle.turns.proofs.Going.{goes_on, so, faulted}
 use Rattle.turns.proofs.Asking.{moving, taken-fewer, move_taken, exchange-made}

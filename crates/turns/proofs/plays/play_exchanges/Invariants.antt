@@ -1,5 +1,5 @@
 use Rattle.std.proofs.Common.{length}
-use Rattle.logs.specs.Framing.{left_of}
+use Rattle.logs.specs.Cursors.{left_of}
 use Rattle.turns.proofs.Asking.{Exchanging}
 use Rattle.turns.proofs.plays.play_exchanges.Given as goal
 

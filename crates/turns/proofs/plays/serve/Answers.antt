@@ -1,6 +1,6 @@
 use Rattle.std.proofs.Common.{Err, sym, ap, ◌∙◌}
 use Rattle.std.proofs.lemmas.Result.{err_from_is_err_and}
-use Rattle.logs.specs.Framing.{passed_of}
+use Rattle.logs.specs.Cursors.{passed_of}
 use Rattle.acceptance.specs.Scripts.{requesting}
 use Rattle.turns.specs.Onward.{asked_of, resuming, going_from}
 use Rattle.turns.proofs.Going.{goes_on, so, faulted, nothing}
