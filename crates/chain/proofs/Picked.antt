@@ -1,6 +1,6 @@
 -- What stands in the entries of a list of numbers.
 use Rattle.std.proofs.Common.{◌≡◌, ℕ, zero, suc, ◌<◌, eqb, ◌≢◌, List, [], ◌∷◌, ◌++◌, length, take, drop, set, sym, refl, ap, ◌∙◌, arith}
-use Rattle.std.specs.List.{AllByRecursion as All}
+use Rattle.std.specs.List.{AllByRecursion}
 use Rattle.std.proofs.lemmas.List.{append_assoc}
 use Rattle.lines.specs.Orders.{taken_out, exchanged}
 use Rattle.lines.specs.Places.{occurrences}
@@ -18,11 +18,11 @@ module _ {X : Type 0} where
   one (x ∷ xs) zero h = (x, refl)
   one (x ∷ xs) (suc w) h = one xs w (omega arith)
 
-  pub length-picked : (xs : List X) (ws : List ℕ) → All (λ w. w < length xs) ws → length (picked xs ws) ≡ length ws
+  pub length-picked : (xs : List X) (ws : List ℕ) → AllByRecursion (λ w. w < length xs) ws → length (picked xs ws) ≡ length ws
   length-picked xs [] h = refl
   length-picked xs (w ∷ ws) h = rw (one xs w h.0).1 (ap suc (length-picked xs ws h.1))
 
-  pub picked-taken_out : (p : ℕ) (xs : List X) (ws : List ℕ) → All (λ w. w < length xs) ws → picked xs (taken_out p ws) ≡ taken_out p (picked xs ws)
+  pub picked-taken_out : (p : ℕ) (xs : List X) (ws : List ℕ) → AllByRecursion (λ w. w < length xs) ws → picked xs (taken_out p ws) ≡ taken_out p (picked xs ws)
   picked-taken_out zero xs ws h = refl
   picked-taken_out (suc p) xs [] h = refl
   picked-taken_out (suc zero) xs (w ∷ ws) h = rw (one xs w h.0).1
@@ -30,7 +30,7 @@ module _ {X : Type 0} where
       let o = one xs w h.0 in
       rw o.1 (ap (λ ys. o.0 ∷ ys) (picked-taken_out (suc p) xs ws h.1))
 
-  pub picked-exchanged : (p : ℕ) (xs : List X) (ws : List ℕ) → All (λ w. w < length xs) ws → picked xs (exchanged p ws) ≡ exchanged p (picked xs ws)
+  pub picked-exchanged : (p : ℕ) (xs : List X) (ws : List ℕ) → AllByRecursion (λ w. w < length xs) ws → picked xs (exchanged p ws) ≡ exchanged p (picked xs ws)
   picked-exchanged zero xs ws h = refl
   picked-exchanged (suc p) xs [] h = refl
   picked-exchanged (suc zero) xs (w ∷ []) h = rw (one xs w h.0).1

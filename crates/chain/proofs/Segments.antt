@@ -1,6 +1,6 @@
 -- Segments of ways: from a number the entries of a list follow in turn, and the last one's next is the segment's end.
 use Rattle.std.proofs.Common.{◌≡◌, ℕ, zero, suc, ◌+◌, ◌<◌, ◌≤◌, eqb, ◌≢◌, List, [], ◌∷◌, ◌++◌, length, get_or, take, drop, set, sym, refl, ap, ◌∙◌, inl, inr, arith, drop-cons}
-use Rattle.std.specs.List.{AllByRecursion as All}
+use Rattle.std.specs.List.{AllByRecursion}
 use Rattle.std.proofs.lemmas.List.{length-set, get_or-set_same, get_or-set_other, drop_all}
 use Rattle.std.proofs.lemmas.Bool.{cases_lt}
 use Rattle.std.proofs.lemmas.Bool.Decides.{nat_tests}
@@ -76,7 +76,7 @@ pub leads-join : (us vs nexts : List ℕ) (at mid end : ℕ) → Leads nexts at 
 leads-join [] vs nexts at mid end h i = rw h i
 leads-join (u ∷ us) vs nexts at mid end h i = (h.0, h.1, leads-join us vs nexts (get_or nexts u 0) mid end h.2 i)
 
-pub leads-within : (ws nexts : List ℕ) (at end : ℕ) → Leads nexts at ws end → All (λ w. w < length nexts) ws
+pub leads-within : (ws nexts : List ℕ) (at end : ℕ) → Leads nexts at ws end → AllByRecursion (λ w. w < length nexts) ws
 leads-within [] nexts at end h = tt
 leads-within (w ∷ ws) nexts at end h = (h.1, leads-within ws nexts (get_or nexts w 0) end h.2)
 

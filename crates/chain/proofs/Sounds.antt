@@ -1,6 +1,6 @@
 -- What a sound chain's calls rely on, and what they leave.
 use Rattle.std.proofs.Common.{◌≡◌, ℕ, suc, ◌+◌, ◌-◌, ◌<◌, ◌≤◌, min, Bool, false, eqb, List, [], ◌∷◌, ◌++◌, map, length, get_or, take, set, Ok, Decides, sym, ap, ◌∙◌, subst, arith}
-use Rattle.std.specs.List.{AllByRecursion as All}
+use Rattle.std.specs.List.{AllByRecursion}
 use Rattle.lines.specs.Orders.{key_at, taken_out, exchanged}
 use Rattle.lines.specs.Places.{occurrences, stands, Different}
 use Rattle.lines.proofs.Kept.{different-taken_out, different-exchanged, different-appended}
@@ -19,7 +19,7 @@ whole_from : {K : Type 0} (cells others : List (Cell K)) (head head' : ℕ) → 
 whole_from cells others head head' r l o w = record { runs = l ∙ w.runs ∙ sym r; apart = λ v. rw (o v) (w.apart v) }
 
 -- what is picked along a way that runs
-picked-within : {K : Type 0} (cells : List (Cell K)) (head n : ℕ) → Runs (nexts_in cells) head n → All (λ w. w < length (keys_in cells)) (way (nexts_in cells) head n)
+picked-within : {K : Type 0} (cells : List (Cell K)) (head n : ℕ) → Runs (nexts_in cells) head n → AllByRecursion (λ w. w < length (keys_in cells)) (way (nexts_in cells) head n)
 picked-within cells head n h =
     let e : length (keys_in cells) ≡ length (nexts_in cells) = length-keys cells ∙ sym (length-nexts cells) in
     rw e (leads-within (way (nexts_in cells) head n) (nexts_in cells) head (beyond (nexts_in cells) head n) (leads-from-way n (nexts_in cells) head h))
