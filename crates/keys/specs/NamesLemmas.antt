@@ -48,13 +48,13 @@ module _ (s : List ℕ) where
   pub reads : (f : ℕ → ℕ) (n : ℕ) → length s ≡ n → 1 ≤ n → n ≤ 16 → ((i : ℕ) → i < n → In (slice_index s i)) → ((i : ℕ) → i < n → to_ascii_lowercase (slice_index s i) ≡ f i) → name_read s ≡ Some (map f (range_with_len 0 n))
   reads f n long low high ins smalls =
       let sized : is_in_range 1 16 (length s) ≡ true = grind (arith, nat_tests) in
-      let all = (all_in s).1 (AllByRecursion-from_get_or In s 0 (λ i h. ins i (omega arith))) in
+      let all = (all_in s).1 (All-from_get_or In s 0 (λ i h. ins i (omega arith))) in
       let same = fill_by_all f (map to_ascii_lowercase s) n 0 (length-map s to_ascii_lowercase ∙ long) (λ i h. get_or-map to_ascii_lowercase s i 0 0 (omega arith) ∙ smalls i h) in
       cond-true _ _ _ (and_from _ _ sized all) ∙ ap Some same
 
   pub reads-not : (i : ℕ) → i < length s → in_alphabet (slice_index s i) ≡ false → name_read s ≡ None
   reads-not i h out =
-      let clash : list_all in_alphabet s ≡ true → ⊥ = λ p. both_ways _ out (AllByRecursion-get_or In s i 0 h ((all_in s).0 p)) in
+      let clash : list_all in_alphabet s ≡ true → ⊥ = λ p. both_ways _ out (All-get_or In s i 0 h ((all_in s).0 p)) in
       let failed : list_all in_alphabet s ≡ false = grind arith in
       cond-false _ _ _ (and_right _ _ failed)
 
