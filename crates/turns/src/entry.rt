@@ -2,7 +2,7 @@
 ghost use Rattle.std.specs.Prelude.{◌≡◌, length};
 ghost use Rattle.keys.specs.Spelling.{meant};
 ghost use Rattle.logs.specs.Pages.{request_of, entry_of};
-ghost use Rattle.logs.specs.Items.{request};
+ghost use Rattle.logs.specs.Items.{request as requested};
 ghost use Rattle.turns.specs.Onward.{page_left, read_by, asked_of, item_of, read_item, Advanced};
 
 use keys::{Denial, Key};
@@ -25,7 +25,7 @@ pub enum Entry<K> {
 
 // A request by its key.
 fn asked_of<K: Key>(request: Request<'_>) -> Result<Asked<K>, Denial>
-    ensures { meant (λ asked. request (asked_of K.Key asked)) result ≡ read_item K.Key (request_of request.entry) }
+    ensures { meant (λ asked. requested (asked_of K.Key asked)) result ≡ read_item K.Key (request_of request.entry) }
 {
     let key = K::read(request.spelling())?;
     match request {

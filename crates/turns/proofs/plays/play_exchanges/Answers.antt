@@ -34,14 +34,14 @@ loop-goal-preserved g c =
       c.exchange-done.ensures.house_sound,
       c.exchange-done.ensures.rival_sound,
       (λ asked page onward. goes_on g.K.Key g.H.Line g.R.Line (c.loop-goal.invariant.2 asked page onward)
-          (so g.K.Key g.H.Line g.R.Line (done asked page onward) (ap (λ r. resuming r (λ _. asking_from asked page onward plan')) c.in_ok-said_of.was))),
+          (so g.K.Key g.H.Line g.R.Line (done asked page onward) (ap (λ r. resuming r (λ _. asking_from asked page onward plan')) c.in_ok-said_of-in-Exchange.was))),
     )
 
-pub returns-in_err-said_of : goal.returns-in_err-said_of
-returns-in_err-said_of g c = λ asked page onward.
+pub returns-in_err-said_of-in-Exchange : goal.returns-in_err-said_of-in-Exchange
+returns-in_err-said_of-in-Exchange g c = λ asked page onward.
     let plan' = c.next_move.new.plan in
-    let p = err_from_is_err_and c.from_residual-in_err-said_of.result c.from_residual-in_err-said_of.ensures.1 in
-    let stop = c.in_err-said_of.was ∙ ap Err (sym p.2) in
+    let p = err_from_is_err_and c.from_residual-in_err-said_of-in-Exchange.result c.from_residual-in_err-said_of-in-Exchange.ensures.1 in
+    let stop = c.in_err-said_of-in-Exchange.was ∙ ap Err (sym p.2) in
     let was = c.in_ok-goal.was ∙ ap Ok c.in-Exchange.is in
     let done = exchange-made g.K.Key g.H.Line g.R.Line c.args.house.now c.loop-goal.rival c.exchange-done.new.rival c.loop-goal.bench.ledger c.exchange-done.new.self.ledger c.loop-goal.plan plan' c.next_move.result c.in-Exchange.place c.exchange-done.result c.passed.result c.said_of.result c.loop-goal.invariant.0 c.loop-goal.invariant.1 c.next_move.ensures was c.exchange-done.ensures c.passed.ensures.value c.said_of.ensures in
     goes_on g.K.Key g.H.Line g.R.Line (c.loop-goal.invariant.2 asked page onward) (so g.K.Key g.H.Line g.R.Line (done asked page onward) (faulted p.0 _ _ stop p.1))
