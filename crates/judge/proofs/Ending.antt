@@ -1,6 +1,7 @@
 -- The end of a plan.
-use Rattle.std.proofs.Common.{◌≡◌, ℕ, ◌+◌, true, false, eqb, List, [], ◌∷◌, length, Some, None, Ok, Err, Option, sym, refl, ap, add-one, arith}
-use Rattle.std.proofs.lemmas.Bool.{cond-true, eq-eqb}
+use Rattle.std.proofs.Common.{◌≡◌, ℕ, suc, ◌+◌, true, false, eqb, List, [], ◌∷◌, length, Some, None, Ok, Err, Option, sym, refl, ap, ◌∙◌, add-one, arith}
+use Rattle.std.proofs.lemmas.Bool.{cond-true, cond-false, eq-eqb}
+use Rattle.std.proofs.lemmas.Bool.Decides.{nat_tests}
 use Rattle.keys.specs.declared.denial.Denial.{Denial}
 use Rattle.keys.specs.declared.denial.Denial.TheVariants.{Misfit}
 use Rattle.reckoning.specs.Reckoning.{close}
@@ -14,6 +15,12 @@ use Rattle.acceptance.specs.Scripts.{fault_on, faulty, calling, ending}
 use Rattle.turns.specs.Onward.{plan_left, left_over, resuming, going_from}
 use Rattle.turns.proofs.Going.{nothing}
 
+-- where a byte is left, that is said
+some-left : {V : Type 0} (read b : ℕ) (bytes : List ℕ) → faulty {V = V} Plan (suc read) Misfit ≡ resuming (left_over (read + 1) (b ∷ bytes)) (λ _. calling close 0 0 nothing)
+some-left read b bytes =
+    let some : eqb (length (b ∷ bytes)) 0 ≡ false = grind (arith, nat_tests) in
+    ap (λ n. faulty Plan n Misfit) (sym (add-one read)) ∙ ap (λ r. resuming r (λ _. calling close 0 0 nothing)) (sym (cond-false _ _ _ some))
+
 -- a plan of no moves and no fault has no byte left, and any other has one
 ended_by : {V : Type 0} (read : ℕ) (bytes : List ℕ) (left : List Move × Option Denial) → plan_moves bytes ≡ left
     → ending {V = V} read left.0 left.1 ≡ resuming (left_over (read + 1) bytes) (λ _. calling close 0 0 nothing)
@@ -22,12 +29,12 @@ ended_by read [] ([], Some denial) e =
     let f : ◌≡◌ {A = Option Denial} None (Some denial) = ap (λ p. p.1) e in
     let z : ◌≡◌ {A = ℕ} 0 1 = cc in
     absurd (omega arith)
-ended_by read (b ∷ bytes) ([], Some denial) e = ap (λ n. faulty Plan n Misfit) (sym (add-one read))
+ended_by read (b ∷ bytes) ([], Some denial) e = some-left read b bytes
 ended_by read [] (move ∷ moves, fault) e =
     let f : ◌≡◌ {A = List Move} [] (move ∷ moves) = ap (λ p. p.0) e in
     let z : ◌≡◌ {A = ℕ} 0 1 = cc in
     absurd (omega arith)
-ended_by read (b ∷ bytes) (move ∷ moves, fault) e = ap (λ n. faulty Plan n Misfit) (sym (add-one read))
+ended_by read (b ∷ bytes) (move ∷ moves, fault) e = some-left read b bytes
 
 -- where the page has ended, the plan's end is looked at, and the bench is closed
 pub ends_so : (V : Type 0) (plan : PlanReader) → going_from (ending {V = V}) plan ≡ resuming (left_over (passed_of plan.cursor + 1) (left_of plan.cursor)) (λ _. calling close 0 0 nothing)

@@ -34,13 +34,13 @@ loop-entry-preserved g c =
       c.load-loaded.ensures.house_sound,
       c.load-loaded.ensures.rival_sound,
       (λ plan. goes_on g.K.Key g.H.Line g.R.Line (c.loop-entry.invariant.2 plan)
-          (so g.K.Key g.H.Line g.R.Line (done plan) (ap (λ r. resuming r (λ _. loading_from g.K.Key page' plan)) c.in_ok-said_of.was))),
+          (so g.K.Key g.H.Line g.R.Line (done plan) (ap (λ r. resuming r (λ _. loading_from g.K.Key page' plan)) c.in_ok-said_of-in-First.was))),
     )
 
-pub returns-in_err-said_of : goal.returns-in_err-said_of
-returns-in_err-said_of g c = λ plan.
-    let p = err_from_is_err_and c.from_residual-in_err-said_of.result c.from_residual-in_err-said_of.ensures.1 in
-    let stop = c.in_err-said_of.was ∙ ap Err (sym p.2) in
+pub returns-in_err-said_of-in-First : goal.returns-in_err-said_of-in-First
+returns-in_err-said_of-in-First g c = λ plan.
+    let p = err_from_is_err_and c.from_residual-in_err-said_of-in-First.result c.from_residual-in_err-said_of-in-First.ensures.1 in
+    let stop = c.in_err-said_of-in-First.was ∙ ap Err (sym p.2) in
     let at = c.passed-at.result + 1 in
     let page' = c.next_entry.new.page in
     let was = c.in_ok-entry.was ∙ ap Ok (c.in-Some.is ∙ ap Some c.in-First.is) in
