@@ -1,5 +1,5 @@
 -- The end of a plan.
-use Rattle.std.proofs.Common.{◌≡◌, ℕ, suc, ◌+◌, true, false, eqb, List, [], ◌∷◌, length, Some, None, Ok, Err, Option, sym, refl, ap, ◌∙◌, add-one, arith}
+use Rattle.std.proofs.Common.{◌≡◌, ℕ, suc, ◌+◌, false, eqb, List, [], ◌∷◌, length, Some, None, Option, sym, refl, ap, ◌∙◌, add-one, arith}
 use Rattle.std.proofs.lemmas.Bool.{cond-true, cond-false, eq-eqb}
 use Rattle.std.proofs.lemmas.Bool.Decides.{nat_tests}
 use Rattle.keys.specs.declared.denial.Denial.{Denial}
@@ -11,7 +11,7 @@ use Rattle.logs.specs.declared.plans.Move.{Move}
 use Rattle.logs.specs.Cursors.{left_of, passed_of}
 use Rattle.logs.specs.Plans.{plan_moves}
 use Rattle.logs.proofs.Whole.{plan-left}
-use Rattle.acceptance.specs.Scripts.{fault_on, faulty, calling, ending}
+use Rattle.acceptance.specs.Scripts.{faulty, calling, ending}
 use Rattle.turns.specs.Onward.{plan_left, left_over, resuming, going_from}
 use Rattle.turns.proofs.Going.{nothing}
 

@@ -1,6 +1,6 @@
 -- What the judge's inner functions promise: how denials become faults, what is left of the logs, and how a bench goes on from there.
 -- Only contracts of inner functions cite these.
-use Rattle.std.specs.Prelude.{◌≡◌, ℕ, ◌+◌, ◌<◌, ◌≤◌, cond, List, [], ◌∷◌, length, Some, None, Ok, Err, Option, Result, ◌==◌}
+use Rattle.std.specs.Prelude.{◌≡◌, ℕ, ◌+◌, ◌<◌, ◌≤◌, cond, List, [], length, Some, None, Ok, Err, Option, Result, ◌==◌}
 use Rattle.keys.specs.declared.denial.Denial.{Denial}
 use Rattle.keys.specs.declared.denial.Denial.TheVariants.{Layout, Misfit}
 use Rattle.keys.specs.declared.key.Key.{Ghosts as KeyMeaning}
