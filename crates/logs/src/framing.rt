@@ -70,12 +70,13 @@ pub(crate) fn next_frame(bytes: &[u8]) -> Result<Option<Frame<'_>>, Denial>
     }
 }
 
-// A place in a log: what is left of it, and how many records were passed. Each had a byte at least, and no log has 2 ^ 63 bytes.
+// A place in a log: what is left of it, and how many records were passed. Each of these had a byte at least, so with the bytes left they
+// are few, and the number of the next record fits too.
 #[derive(Clone, Copy)]
 pub(crate) struct Cursor<'a> {
     pub(crate) rest: &'a [u8],
     passed: usize,
-    ghost few: { passed + length rest.now < 2 ^ 63 },
+    ghost few: { passed + length rest.now + 1 < 2 ^ 64 },
 }
 
 impl<'a> Cursor<'a> {
@@ -99,7 +100,7 @@ impl<'a> Cursor<'a> {
     // How many records were passed.
     pub(crate) fn passed(&self) -> usize
         ensures value { result ≡ passed_of self.now }
-        ensures bound { result < 2 ^ 63 }
+        ensures bound { result + 1 < 2 ^ 64 }
     {
         self.passed.min(usize::MAX - self.rest.len())
     }

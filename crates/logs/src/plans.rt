@@ -77,7 +77,7 @@ impl<'a> PlanReader<'a> {
     // How many records were passed.
     pub fn passed(&self) -> usize
         ensures value { result ≡ passed_of self.now.cursor }
-        ensures bound { result < 2 ^ 63 }
+        ensures bound { result + 1 < 2 ^ 64 }
     {
         self.cursor.passed()
     }
