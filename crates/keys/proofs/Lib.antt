@@ -1,1 +1,2 @@
 mod Buffers
+mod Names

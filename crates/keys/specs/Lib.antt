@@ -2,4 +2,4 @@ pub mod Denials
 pub mod Spelling
 pub mod Codes
 pub mod Names
-pub mod NamesLemmas
+pub mod Laws

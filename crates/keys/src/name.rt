@@ -5,7 +5,7 @@ ghost use Rattle.std.specs.Int.{is_in_range};
 ghost use Rattle.std.specs.Str.{bytes_eq};
 ghost use Rattle.keys.specs.Names.{in_alphabet, name_byte, name_of, name_read};
 ghost use Rattle.std.proofs.lemmas.Slice.Eq.{bytes_eq-Decides};
-ghost use Rattle.keys.specs.NamesLemmas.{reads-name};
+ghost use Rattle.keys.specs.Laws.{reads-name};
 ghost use Rattle.std.proofs.Common.{rules};
 
 use super::denial::Denial;

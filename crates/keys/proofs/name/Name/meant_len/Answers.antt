@@ -1,5 +1,5 @@
 use Rattle.std.proofs.Common.{sym, ◌∙◌, arith}
-use Rattle.keys.specs.NamesLemmas.{length-name}
+use Rattle.keys.specs.Laws.{length-name}
 use Rattle.keys.proofs.name.Name.meant_len.Goals as goal
 
 pub returns : goal.returns

@@ -3,7 +3,8 @@ use Rattle.std.specs.Char.{to_ascii_lowercase}
 use Rattle.std.proofs.lemmas.Bool.Decides.{nat_tests}
 use Rattle.keys.specs.Names.{in_alphabet, name_byte, name_length}
 use Rattle.keys.specs.Spelling.{read_as}
-use Rattle.keys.specs.NamesLemmas.{reads, reads-not, small-byte, lowered_none}
+use Rattle.keys.specs.Laws.{reads}
+use Rattle.keys.proofs.Names.{reads-not, small-byte, lowered_none}
 use Rattle.keys.proofs.name.NameKey.read.Goals as goal
 
 pub returns-in-None : goal.returns-in-None

@@ -2,7 +2,7 @@ use Rattle.std.proofs.Common.{◌≡◌, zero-add, arith}
 use Rattle.std.proofs.lemmas.List.Edits.{paste_more}
 use Rattle.keys.specs.Names.{name_of}
 use Rattle.keys.proofs.Buffers.{written-copied}
-use Rattle.keys.specs.NamesLemmas.{get_or-name}
+use Rattle.keys.specs.Laws.{get_or-name}
 use Rattle.keys.proofs.name.NameKey.write.Goals as goal
 
 pub loop-i-preserved : goal.loop-i-preserved
