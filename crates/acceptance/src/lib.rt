@@ -8,5 +8,5 @@ use keys::Key;
 // The judge's definition gives a ledger exactly for the accepted plans, whatever the limits, for every kind of key. It only carries
 // that theorem.
 pub fn accepts_accepted_plans<K: Key>()
-    ensures { AcceptsThem K.Key.equal K.Key.reading K.Key.letter }
+    ensures { AcceptsThem K.Key.equal K.Key.reading K.Key.LETTER }
 {}

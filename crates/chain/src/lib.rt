@@ -108,7 +108,7 @@ fn find<K: Key>(cells: &[Cell<K>], head: usize, count: usize, key: &K) -> Option
     let mut here = head;
     for passed in 0..count {
         let cell = cells[here];
-        if key.same(&cell.key) {
+        if *key == cell.key {
             return Some(passed + 1);
         }
         here = cell.next;

@@ -30,16 +30,16 @@ use Rattle.acceptance.proofs.Bounds.{accepted-twice, accepted-floor, plans-floor
 module _ {K H R : Type 0} (key : KeyMeaning K) (house : LineMeaning H K) (rival : LineMeaning R K)
     (decides : (v w : key.Value) → Decides (key.equal v w) (v ≡ w)) (page plan : List ℕ) (h : H) (r : R) where
   -- a ledger comes of an accepted plan
-  accepted-since : (answered : Result (Unit {0}) Fault) (s : State key.Value) → judged key.equal key.reading key.letter (limits_of key house rival h r) page plan ≡ (answered, s)
+  accepted-since : (answered : Result (Unit {0}) Fault) (s : State key.Value) → judged key.equal key.reading key.LETTER (limits_of key house rival h r) page plan ≡ (answered, s)
       → (answer : Result Ledger Fault) → numbers_of answer ≡ (outcome (answered, s)).0 → (ledger : Ledger) → answer ≡ Ok ledger → AcceptedOn key (limits_of key house rival h r) page plan (sums_of ledger)
   accepted-since (Ok done) s e answer n ledger a =
       let same : s.sums ≡ sums_of ledger = cc in
-      subst (AcceptedOn key (limits_of key house rival h r) page plan) same (judged-accepted key.equal key.reading key.letter (limits_of key house rival h r) page plan s e)
+      subst (AcceptedOn key (limits_of key house rival h r) page plan) same (judged-accepted key.equal key.reading key.LETTER (limits_of key house rival h r) page plan s e)
   accepted-since (Err fault) s e answer n ledger a = let z : ◌≡◌ {A = ℕ} 0 1 = cc in absurd (omega arith)
 
   pub judged-so : (h' : H) (r' : R) (answer : Result Ledger Fault) (answered : Result (Unit {0}) Fault) (s : State key.Value)
       → house.sound h' → rival.sound r' → limits_of key house rival h' r' ≡ limits_of key house rival h r → both_empty (house.keys h) (rival.keys r) ≡ true
-      → judged key.equal key.reading key.letter (limits_of key house rival h r) page plan ≡ (answered, s)
+      → judged key.equal key.reading key.LETTER (limits_of key house rival h r) page plan ≡ (answered, s)
       → outcome (answered, s) ≡ (numbers_of answer, (values_of key (house.keys h'), values_of key (rival.keys r')))
       → Judged key house rival page plan h r answer h' r'
   judged-so h' r' answer answered s sh sr limits void e g =
@@ -51,18 +51,18 @@ module _ {K H R : Type 0} (key : KeyMeaning K) (house : LineMeaning H K) (rival 
         gives = cond-true _ _ _ void ∙ ap outcome e ∙ g;
         untouched = λ full. let z : true ≡ false = sym void ∙ full in let y : ◌≡◌ {A = ℕ} 0 1 = cc in absurd (omega arith);
         accepts = λ _ sums a.
-            let j = accepted-judged key.equal key.reading key.letter (limits_of key house rival h r) page plan sums a in
+            let j = accepted-judged key.equal key.reading key.LETTER (limits_of key house rival h r) page plan sums a in
             sym (ap (λ (j : Result Sums Fault × (List key.Value × List key.Value)). j.0) g) ∙ ap (λ (j : Result (Unit {0}) Fault × State key.Value). (outcome j).0) (sym e ∙ j.1) ∙ ap Ok j.2;
         accepted = accepted;
         costs = λ ledger a. (sums_of ledger, accepted ledger a, refl);
-        bounded = λ limits sums a. accepted-twice key.equal key.reading key.letter decides limits page plan sums a;
-        floored = λ limits limits' plan' sums sums' a b. plans-floor key.equal key.reading key.letter decides limits limits' page plan plan' sums sums' a b;
-        none_below = λ limits sums plays. accepted-floor key.equal key.reading key.letter decides limits page plan sums plays;
+        bounded = λ limits sums a. accepted-twice key.equal key.reading key.LETTER decides limits page plan sums a;
+        floored = λ limits limits' plan' sums sums' a b. plans-floor key.equal key.reading key.LETTER decides limits limits' page plan plan' sums sums' a b;
+        none_below = λ limits sums plays. accepted-floor key.equal key.reading key.LETTER decides limits page plan sums plays;
       }
 
   -- a fault before anything was done
   pub judged-header : (ledger : Ledger) {answer : Result Ledger Fault} (fault : Fault) → house.sound h → rival.sound r → both_empty (house.keys h) (rival.keys r) ≡ true → bench_of key house rival h r ledger ≡ empty
-      → judged key.equal key.reading key.letter (limits_of key house rival h r) page plan ≡ (Err fault, empty) → answer ≡ Err fault → Judged key house rival page plan h r answer h r
+      → judged key.equal key.reading key.LETTER (limits_of key house rival h r) page plan ≡ (Err fault, empty) → answer ≡ Err fault → Judged key house rival page plan h r answer h r
   judged-header ledger {answer} fault sh sr void fresh e a =
       judged-so h r answer (Err fault) empty sh sr refl void e
       (λ i. (sym (ap numbers_of a) i, (sym (ap (λ (s : State key.Value). s.house) fresh) i, sym (ap (λ (s : State key.Value). s.rival) fresh) i)))
@@ -78,9 +78,9 @@ module _ {K H R : Type 0} (key : KeyMeaning K) (house : LineMeaning H K) (rival 
     accepts = λ void. let z : true ≡ false = sym void ∙ full in let y : ◌≡◌ {A = ℕ} 0 1 = cc in absurd (omega arith);
     accepted = λ ledger b. let z : ◌≡◌ {A = ℕ} 0 1 = cc in absurd (omega arith);
     costs = λ ledger b. let z : ◌≡◌ {A = ℕ} 0 1 = cc in absurd (omega arith);
-    bounded = λ limits sums a. accepted-twice key.equal key.reading key.letter decides limits page plan sums a;
-    floored = λ limits limits' plan' sums sums' a b. plans-floor key.equal key.reading key.letter decides limits limits' page plan plan' sums sums' a b;
-    none_below = λ limits sums plays. accepted-floor key.equal key.reading key.letter decides limits page plan sums plays;
+    bounded = λ limits sums a. accepted-twice key.equal key.reading key.LETTER decides limits page plan sums a;
+    floored = λ limits limits' plan' sums sums' a b. plans-floor key.equal key.reading key.LETTER decides limits limits' page plan plan' sums sums' a b;
+    none_below = λ limits sums plays. accepted-floor key.equal key.reading key.LETTER decides limits page plan sums plays;
   }
 
 -- an answer behind what was said of it
@@ -121,9 +121,9 @@ module _ {K H R : Type 0} (key : KeyMeaning K) (house : LineMeaning H K) (rival 
 
   -- the script of two logs whose headers were read
   pub script-read : (page plan : List ℕ) (reader : PageReader) (reader' : PlanReader)
-      → lettered_in key.letter (versioned page) ≡ Ok (left_of reader.cursor) → reader.requested ≡ false → passed_of reader.cursor ≡ 0
+      → lettered_in key.LETTER (versioned page) ≡ Ok (left_of reader.cursor) → reader.requested ≡ false → passed_of reader.cursor ≡ 0
       → versioned plan ≡ Ok (left_of reader'.cursor)
-      → script_of key.reading key.letter page plan ≡ loading_from key reader (plan_left reader')
+      → script_of key.reading key.LETTER page plan ≡ loading_from key reader (plan_left reader')
   unfolding page_left plan_left
   script-read page plan reader reader' e requested passed f =
       ap (λ head. headed key.reading head (versioned plan)) e
@@ -144,7 +144,7 @@ module _ {K H R : Type 0} (key : KeyMeaning K) (house : LineMeaning H K) (rival 
 
   pub judged-played : (decides : (v w : key.Value) → Decides (key.equal v w) (v ≡ w)) (page plan : List ℕ) (ledger : Ledger) (reader : PageReader) (reader' : PlanReader) (answer : Result Ledger Fault) (h' : H) (r' : R)
       → both_empty (house.keys h) (rival.keys r) ≡ true → bench_of key house rival h r ledger ≡ empty
-      → script_of key.reading key.letter page plan ≡ loading_from key reader (plan_left reader')
+      → script_of key.reading key.LETTER page plan ≡ loading_from key reader (plan_left reader')
       → PlayedOut key house rival h r ledger reader reader' answer h' r' → Judged key house rival page plan h r answer h' r'
   judged-played decides page plan ledger reader reader' answer h' r' void fresh script out =
       let limits = limits_of key house rival h r in

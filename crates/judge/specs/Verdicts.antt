@@ -27,14 +27,14 @@ outcome (Err fault, s) = (Err fault, (s.house, s.rival))
 module _ {K : Type 0} (key : KeyMeaning K) where
   -- a plan is accepted for a page of this kind of key on two empty lines of these limits, with these numbers
   abbrev pub AcceptedOn : Limits → List ℕ → List ℕ → Sums → Type 0
-  AcceptedOn limits page plan sums = Accepted key.equal key.reading key.letter limits page plan sums
+  AcceptedOn limits page plan sums = Accepted key.equal key.reading key.LETTER limits page plan sums
 
 module _ {K H R : Type 0} (key : KeyMeaning K) (house : LineMeaning H K) (rival : LineMeaning R K) where
   -- The judge's answer, and both orders then, by key values. On lines of which one holds a key nothing is done, and that is said of the page as a whole.
   abbrev pub verdict : H → R → List ℕ → List ℕ → Result Sums Fault × (List key.Value × List key.Value)
   verdict h r page plan =
       cond (both_empty (house.keys h) (rival.keys r))
-      (outcome (judged key.equal key.reading key.letter (limits_of key house rival h r) page plan))
+      (outcome (judged key.equal key.reading key.LETTER (limits_of key house rival h r) page plan))
       (Err (fault_on Page 0 NotEmpty), (values_of key (house.keys h), values_of key (rival.keys r)))
 
   -- two logs were judged on the lines h and r, which were left as h' and r'
@@ -50,7 +50,7 @@ module _ {K H R : Type 0} (key : KeyMeaning K) (house : LineMeaning H K) (rival 
     pub accepts : both_empty (house.keys h) (rival.keys r) ≡ true → (sums : Sums) → AcceptedOn key (limits_of key house rival h r) page plan sums → numbers_of answer ≡ Ok sums
     pub accepted : (ledger : Ledger) → answer ≡ Ok ledger → AcceptedOn key (limits_of key house rival h r) page plan (sums_of ledger)
     pub costs : (ledger : Ledger) → answer ≡ Ok ledger
-        → AcceptedAt key.equal key.reading key.letter (limits_of key house rival h r) page plan (cost_of (sums_of ledger))
+        → AcceptedAt key.equal key.reading key.LETTER (limits_of key house rival h r) page plan (cost_of (sums_of ledger))
     -- every accepted plan keeps the twice bound, on whatever two empty lines,
     pub bounded : (limits : Limits) (sums : Sums) → AcceptedOn key limits page plan sums → Twice sums
     -- no plan that is accepted for the page, on whatever two empty lines, costs less than its floor,

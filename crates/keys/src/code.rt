@@ -6,7 +6,7 @@ ghost use Rattle.std.proofs.Common.{rules};
 use super::denial::Denial;
 use super::key::Key;
 
-#[derive(Clone, Copy, Debug)]
+#[derive(Clone, Copy, PartialEq, Eq, Debug)]
 pub struct Code {
     pub number: u16,
 }
@@ -22,28 +22,21 @@ impl Key for Code {
 
     ghost reading = { code_read };
 
-    // `C`
-    ghost letter = { 67 };
-
-    ghost longest = { 2 };
-
     const LETTER: u8 = b'C';
 
+    ghost LETTER = { 67 };
+
     const LONGEST: usize = 2;
+
+    ghost LONGEST = { 2 };
+
+    ghost alike = { Prim.search rules };
 
     ghost decides = { Prim.search rules };
 
     ghost restores = { Prim.search rules };
 
     ghost bounded = { Prim.search rules };
-
-    fn kind_letter() -> u8 {
-        Self::LETTER
-    }
-
-    fn longest_spelling() -> usize {
-        Self::LONGEST
-    }
 
     fn read(spelled: &[u8]) -> Result<Code, Denial> {
         let [high, low] = spelled else {
@@ -61,9 +54,5 @@ impl Key for Code {
         buffer[0] = (self.number / 256) as u8;
         buffer[1] = (self.number % 256) as u8;
         Ok(2)
-    }
-
-    fn same(&self, other: &Code) -> bool {
-        self.number == other.number
     }
 }

@@ -5,7 +5,7 @@ ghost use Rattle.keys.specs.Spelling.{meant, read_as, written, Equivalence};
 use super::denial::Denial;
 
 // A kind of key gives each key a value and a spelling, and each spelling a value or none.
-pub trait Key: Copy {
+pub trait Key: Copy + Eq {
     // What keys of this kind mean.
     ghost Value: { Type 0 };
 
@@ -21,24 +21,15 @@ pub trait Key: Copy {
     // The value of a spelling, or none.
     ghost reading: { List ℕ → Option Value };
 
-    // The letter of the kind, and the length of its longest spelling.
-    ghost letter: { ℕ };
-
-    ghost longest: { ℕ };
-
-    // The letter and the longest spelling. A clause of generic code knows no constant's value, so generic code asks the two
-    // functions below, whose contracts tie them to the meaning.
+    // The letter of the kind.
     const LETTER: u8;
 
+    ghost LETTER: { ℕ };
+
+    // The length of the longest spelling.
     const LONGEST: usize;
 
-    // The constant `LETTER`, as the kind's letter.
-    fn kind_letter() -> u8
-        ensures { result ≡ letter };
-
-    // The constant `LONGEST`, as the length of the kind's longest spelling.
-    fn longest_spelling() -> usize
-        ensures { result ≡ longest };
+    ghost LONGEST: { ℕ };
 
     // The key that a spelling means.
     fn read(spelled: &[u8]) -> Result<Self, Denial>
@@ -48,9 +39,8 @@ pub trait Key: Copy {
     fn write(&self, buffer: &mut [u8]) -> Result<usize, Denial>
         ensures { written (spelling self.now) buffer.old ≡ (result, buffer.new) };
 
-    // Whether two keys mean the same.
-    fn same(&self, other: &Self) -> bool
-        ensures { result ≡ equal (value self.now) (value other.now) };
+    // Two keys are equal when their values are.
+    ghost alike: { (a b : Self) → Self.eq a b ≡ equal (value a) (value b) };
 
     // The test is true exactly at equal values.
     ghost decides: { (v w : Value) → Decides (equal v w) (v ≡ w) };
@@ -59,7 +49,7 @@ pub trait Key: Copy {
     ghost restores: { (k : Self) → reading (spelling k) ≡ Some (value k) };
 
     // No longer spelling has a value.
-    ghost bounded: { (s : List ℕ) → longest < length s → reading s ≡ None };
+    ghost bounded: { (s : List ℕ) → LONGEST < length s → reading s ≡ None };
 }
 
 // `same` is an equivalence, for every kind of key. It only carries that theorem.

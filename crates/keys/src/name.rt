@@ -1,5 +1,7 @@
 // Names as keys: 1 to 16 bytes of letters, digits and hyphens, where capitals mean small letters.
 ghost use Rattle.std.specs.Prelude.{◌≡◌, ℕ, ◌≤◌, List, length, if◌then◌else◌, Some, None, ◌==◌};
+ghost use Rattle.std.specs.Cmp.Rules.{comparing};
+ghost use Rattle.std.specs.Ordering.{on};
 ghost use Rattle.std.specs.Char.{to_ascii_lowercase};
 ghost use Rattle.std.specs.Int.{is_in_range};
 ghost use Rattle.std.specs.Str.{bytes_eq};
@@ -60,6 +62,30 @@ fn fits_name(len: usize) -> bool
     len >= 1 && len <= <Name as Key>::LONGEST
 }
 
+// Records are equal when they mean the same name.
+impl PartialEq for Name {
+    ghost eq = { on name_of bytes_eq };
+
+    ghost laws = { Prim.search (comparing, rules) };
+
+    fn eq(&self, other: &Name) -> bool {
+        let len = self.meant_len();
+        if len != other.meant_len() {
+            return false;
+        }
+        for i in 0..len {
+            if !same_byte(self.bytes[i], other.bytes[i]) {
+                return false;
+            }
+        }
+        true
+    }
+}
+
+impl Eq for Name {
+    ghost laws = { Prim.search (comparing, rules) };
+}
+
 impl Key for Name {
     ghost Value = { List ℕ };
 
@@ -71,28 +97,21 @@ impl Key for Name {
 
     ghost reading = { name_read };
 
-    // `N`
-    ghost letter = { 78 };
-
-    ghost longest = { 16 };
-
     const LETTER: u8 = b'N';
 
+    ghost LETTER = { 78 };
+
     const LONGEST: usize = 16;
+
+    ghost LONGEST = { 16 };
+
+    ghost alike = { Prim.search rules };
 
     ghost decides = { bytes_eq-Decides };
 
     ghost restores = { reads-name };
 
     ghost bounded = { Prim.search rules };
-
-    fn kind_letter() -> u8 {
-        Self::LETTER
-    }
-
-    fn longest_spelling() -> usize {
-        Self::LONGEST
-    }
 
     fn read(spelled: &[u8]) -> Result<Name, Denial> {
         if !fits_name(spelled.len()) {
@@ -120,18 +139,5 @@ impl Key for Name {
             buffer[i] = meant_byte(self.bytes[i]);
         }
         Ok(len)
-    }
-
-    fn same(&self, other: &Name) -> bool {
-        let len = self.meant_len();
-        if len != other.meant_len() {
-            return false;
-        }
-        for i in 0..len {
-            if !same_byte(self.bytes[i], other.bytes[i]) {
-                return false;
-            }
-        }
-        true
     }
 }

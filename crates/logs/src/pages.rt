@@ -51,9 +51,9 @@ fn record_by(letter: u8, spelling: &[u8], requested: bool) -> Result<PageRecord<
 
 // Whether a spelling is longer than any of its kind.
 fn is_too_long<K: Key>(spelling: &[u8]) -> bool
-    ensures { result ≡ nat_lt K.Key.longest (length spelling.now) }
+    ensures { result ≡ nat_lt K.Key.LONGEST (length spelling.now) }
 {
-    spelling.len() > K::longest_spelling()
+    spelling.len() > K::LONGEST
 }
 
 // The record of a letter and a spelling that the kind of key has a value for.
@@ -101,11 +101,11 @@ pub struct PageReader<'a> {
 impl<'a> PageReader<'a> {
     // A reader at the first record of a log for this kind of key.
     pub fn open<K: Key>(log: &'a [u8]) -> Result<PageReader<'a>, Denial>
-        ensures left { meant (λ reader. left_of reader.cursor) result ≡ lettered_in K.Key.letter (versioned log.now) }
+        ensures left { meant (λ reader. left_of reader.cursor) result ≡ lettered_in K.Key.LETTER (versioned log.now) }
         ensures fresh { IfOk result (λ reader. (reader.requested ≡ false) × (passed_of reader.cursor ≡ 0)) }
     {
         let rest = behind_version(log)?;
-        let rest = behind_letter(rest, K::kind_letter())?;
+        let rest = behind_letter(rest, K::LETTER)?;
         Ok(PageReader {
             cursor: Cursor::at(rest),
             requested: false,

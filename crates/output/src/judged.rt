@@ -23,7 +23,7 @@ fn judge_on_rows<K: Key>(
     plan: &[u8],
 ) -> Result<Ledger, Fault>
     requires { (length house_cells.old ≡ 256) × (length rival_cells.old ≡ 256) }
-    ensures { numbers_of result ≡ answer_for K.Key.equal K.Key.reading K.Key.letter page.now plan.now }
+    ensures { numbers_of result ≡ answer_for K.Key.equal K.Key.reading K.Key.LETTER page.now plan.now }
 {
     let mut house = Row::new(house_cells);
     let mut rival = Row::new(rival_cells);

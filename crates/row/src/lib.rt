@@ -75,7 +75,7 @@ fn search<K: Key>(keys: &[K], key: &K) -> Option<usize>
     ensures { result ≡ place_of K.Key.equal (K.Key.value key.now) (map K.Key.value keys.now) }
 {
     for (at, other) in keys.iter().enumerate() {
-        if key.same(other) {
+        if key == other {
             return Some(at + 1);
         }
     }

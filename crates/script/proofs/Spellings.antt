@@ -9,10 +9,10 @@ use Rattle.keys.specs.declared.denial.Denial.TheVariants.{NoRoom}
 use Rattle.keys.specs.declared.key.Key.{Ghosts as KeyMeaning}
 
 -- no spelling is longer than the longest
-pub spelling-fits : {K : Type 0} (key : KeyMeaning K) → ((k : K) → key.reading (key.spelling k) ≡ Some (key.value k)) → ((s : List ℕ) → key.longest < length s → key.reading s ≡ None)
-    → (k : K) → length (key.spelling k) ≤ key.longest
+pub spelling-fits : {K : Type 0} (key : KeyMeaning K) → ((k : K) → key.reading (key.spelling k) ≡ Some (key.value k)) → ((s : List ℕ) → key.LONGEST < length s → key.reading s ≡ None)
+    → (k : K) → length (key.spelling k) ≤ key.LONGEST
 spelling-fits key restores bounded k =
-    elim (cases_lt key.longest (length (key.spelling k))) [
+    elim (cases_lt key.LONGEST (length (key.spelling k))) [
       | inl l ↦ let a = restores k in let b = bounded (key.spelling k) l in let z : ◌≡◌ {A = ℕ} 0 1 = cc in absurd (omega arith)
       | inr l ↦ l
     ]

@@ -23,7 +23,7 @@ pub fn keys_of<K: Key, L: Orderly<K>>(heap: Global, line: &L) -> Result<Vec<K>, 
 pub fn spell<K: Key>(heap: Global, key: &K) -> Result<Vec<u8>, AllocError>
     ensures { IfOk result (λ v. v.items ≡ K.Key.spelling key.now) }
 {
-    let mut spelling = vec![in heap; 0; K::longest_spelling()]?;
+    let mut spelling = vec![in heap; 0; K::LONGEST]?;
     let len = key.write(&mut spelling).unwrap();
     spelling.truncate(len);
     Ok(spelling)

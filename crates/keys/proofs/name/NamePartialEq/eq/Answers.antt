@@ -1,7 +1,7 @@
 use Rattle.std.proofs.Common.{sym, ◌∙◌, arith, below_more}
 use Rattle.std.proofs.lemmas.Bool.{eqb-true, eqb-false}
 use Rattle.keys.proofs.Names.{apart-by-length, apart-at, same_name}
-use Rattle.keys.proofs.name.NameKey.same.Goals as goal
+use Rattle.keys.proofs.name.NamePartialEq.eq.Goals as goal
 
 pub returns-then-len-meant_len : goal.returns-then-len-meant_len
 returns-then-len-meant_len c =

@@ -1,6 +1,6 @@
 use Rattle.std.proofs.Common.{◌≡◌, ℕ, ◌<◌, get_or}
 use Rattle.keys.specs.Names.{name_byte}
-use Rattle.keys.proofs.name.NameKey.same.Given as goal
+use Rattle.keys.proofs.name.NamePartialEq.eq.Given as goal
 
 -- the two names agree so far
 abbrev pub invariant-loop-i : goal.invariant-loop-i
