@@ -1,5 +1,5 @@
 -- What reading a spelling answers, and what writing a text into a buffer answers and leaves.
-use Rattle.std.specs.Prelude.{◌≡◌, ℕ, Bool, true, cond, List, ◌++◌, length, drop, Some, None, Ok, Err, Option, Result, nat_lt}
+use Rattle.std.specs.Prelude.{ℕ, cond, List, ◌++◌, length, drop, Some, None, Ok, Err, Option, Result, nat_lt}
 use Rattle.keys.specs.declared.denial.Denial.{Denial}
 use Rattle.keys.specs.declared.denial.Denial.TheVariants.{Layout, NoRoom}
 
@@ -16,9 +16,3 @@ read_as None = Err Layout
 -- a text fills the front of a buffer, its length is given, and the rest stays; in too short a buffer nothing is written
 abbrev pub written : List ℕ → List ℕ → Result ℕ Denial × List ℕ
 written text buffer = cond (nat_lt (length buffer) (length text)) (Err NoRoom, buffer) (Ok (length text), text ++ drop (length text) buffer)
-
--- `same` is an equivalence
-pub record Equivalence {K : Type 0} (same : K → K → Bool) : Type 0 where
-  pub reflexive : (a : K) → same a a ≡ true
-  pub symmetric : (a b : K) → same a b ≡ true → same b a ≡ true
-  pub transitive : (a b c : K) → same a b ≡ true → same b c ≡ true → same a c ≡ true

@@ -4,6 +4,7 @@ ghost use Rattle.keys.specs.Codes.{code_spelling, code_read};
 ghost use Rattle.std.proofs.Common.{rules};
 
 use super::denial::Denial;
+use super::front::write_front;
 use super::key::Key;
 
 #[derive(Clone, Copy, PartialEq, Eq, Debug)]
@@ -43,16 +44,11 @@ impl Key for Code {
             return Err(Denial::Layout);
         };
         Ok(Code {
-            number: *high as u16 * 256 + *low as u16,
+            number: u16::from_be_bytes([*high, *low]),
         })
     }
 
     fn write(&self, buffer: &mut [u8]) -> Result<usize, Denial> {
-        if buffer.len() < 2 {
-            return Err(Denial::NoRoom);
-        }
-        buffer[0] = (self.number / 256) as u8;
-        buffer[1] = (self.number % 256) as u8;
-        Ok(2)
+        write_front(&self.number.to_be_bytes(), buffer)
     }
 }

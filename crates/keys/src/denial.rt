@@ -6,37 +6,37 @@ ghost use Rattle.keys.specs.Denials.{number_of};
 #[derive(Clone, Copy, PartialEq, Eq, Debug)]
 pub enum Denial {
     // A bench is opened on lines of which one holds a key.
-    NotEmpty,
+    NotEmpty = 1,
     // The two lines' counts differ, or the key stands in just one of them.
-    Unmatched,
+    Unmatched = 2,
     // The place is outside the call's range.
-    OutOfRange,
+    OutOfRange = 3,
     // The key to append stands there already.
-    Present,
+    Present = 4,
     // A line to append to has as many keys as its limit.
-    Full,
+    Full = 5,
     // The key stands in neither line.
-    Absent,
+    Absent = 6,
     // The counter of requests, or of paid exchanges, is at its limit.
-    Exhausted,
+    Exhausted = 7,
     // The goal is not from 1 to the rival's place.
-    BadGoal,
+    BadGoal = 8,
     // A log's version byte is missing or unknown.
-    Version,
+    Version = 9,
     // A page log's kind of key is missing or another.
-    Letter,
+    Letter = 10,
     // Fewer bytes remain than a length, or its record, needs.
-    CutOff,
+    CutOff = 11,
     // A length, a letter or a spelling breaks the layout.
-    Layout,
+    Layout = 12,
     // A plan misfits its page.
-    Misfit,
+    Misfit = 13,
     // A page is not small enough for a search of all plans.
-    NotSmall,
+    NotSmall = 14,
     // A buffer is too short; no buffer is written.
-    NoRoom,
+    NoRoom = 15,
     // A log is longer than the program takes.
-    TooLong,
+    TooLong = 16,
 }
 
 impl Denial {
@@ -44,23 +44,6 @@ impl Denial {
     pub fn number(self) -> u8
         ensures { result ≡ number_of self }
     {
-        match self {
-            Denial::NotEmpty => 1,
-            Denial::Unmatched => 2,
-            Denial::OutOfRange => 3,
-            Denial::Present => 4,
-            Denial::Full => 5,
-            Denial::Absent => 6,
-            Denial::Exhausted => 7,
-            Denial::BadGoal => 8,
-            Denial::Version => 9,
-            Denial::Letter => 10,
-            Denial::CutOff => 11,
-            Denial::Layout => 12,
-            Denial::Misfit => 13,
-            Denial::NotSmall => 14,
-            Denial::NoRoom => 15,
-            Denial::TooLong => 16,
-        }
+        self as u8
     }
 }

@@ -1,6 +1,8 @@
 // A kind of key.
 ghost use Rattle.std.specs.Prelude.{◌≡◌, ℕ, ◌<◌, Bool, List, length, Some, None, Decides, Option};
-ghost use Rattle.keys.specs.Spelling.{meant, read_as, written, Equivalence};
+ghost use Rattle.std.specs.Cmp.{IsEquivalence};
+ghost use Rattle.std.specs.Ordering.{on};
+ghost use Rattle.keys.specs.Spelling.{meant, read_as, written};
 
 use super::denial::Denial;
 
@@ -52,7 +54,7 @@ pub trait Key: Copy + Eq {
     ghost bounded: { (s : List ℕ) → LONGEST < length s → reading s ≡ None };
 }
 
-// `same` is an equivalence, for every kind of key. It only carries that theorem.
+// Equality is an equivalence, for every kind of key. It only carries that theorem.
 pub fn same_is_equivalence<K: Key>()
-    ensures { Equivalence (λ (a b : K). K.Key.equal (K.Key.value a) (K.Key.value b)) }
+    ensures { IsEquivalence (on K.Key.value K.Key.equal) }
 {}

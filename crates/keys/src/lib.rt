@@ -3,6 +3,7 @@
 
 pub mod code;
 pub mod denial;
+mod front;
 pub mod key;
 pub mod name;
 
