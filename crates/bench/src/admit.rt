@@ -39,7 +39,7 @@ fn find<K: Key, H: Orderly<K>, R: Orderly<K>>(
     key: &K,
 ) -> Result<Option<Places>, Denial>
     requires { (H.Line.sound house.now) × (R.Line.sound rival.now) }
-    ensures { result ≡ found K.Key H.Line R.Line key.now house.now rival.now }
+    ensures { result ≡ found K.Key.own H.Line R.Line key.now house.now rival.now }
 {
     let house_count = count_of(house);
     let rival_count = count_of(rival);
@@ -69,7 +69,7 @@ pub(crate) fn admit_remove<K: Key, H: Orderly<K>, R: Orderly<K>>(
     key: &K,
 ) -> Result<Places, Denial>
     requires { (H.Line.sound house.now) × (R.Line.sound rival.now) }
-    ensures { result ≡ admitted (failed K.Key H.Line R.Line (remove (K.Key.value key.now)) house.now rival.now ledger) (places_of K.Key H.Line R.Line key.now house.now rival.now) }
+    ensures { result ≡ admitted (failed K.Key.own H.Line R.Line (remove (K.Key.value key.now)) house.now rival.now ledger) (places_of K.Key.own H.Line R.Line key.now house.now rival.now) }
 {
     if ledger.requests == COUNTER_LIMIT {
         return Err(Denial::Exhausted);
@@ -89,7 +89,7 @@ pub(crate) fn admit_lookup<K: Key, H: Orderly<K>, R: Orderly<K>>(
     goal: usize,
 ) -> Result<Places, Denial>
     requires { (H.Line.sound house.now) × (R.Line.sound rival.now) }
-    ensures { result ≡ admitted (failed K.Key H.Line R.Line (lookup (K.Key.value key.now) goal) house.now rival.now ledger) (places_of K.Key H.Line R.Line key.now house.now rival.now) }
+    ensures { result ≡ admitted (failed K.Key.own H.Line R.Line (lookup (K.Key.value key.now) goal) house.now rival.now ledger) (places_of K.Key.own H.Line R.Line key.now house.now rival.now) }
 {
     let places = admit_remove(ledger, house, rival, key)?;
     if is_outside(goal, places.rival) {
@@ -105,7 +105,7 @@ pub(crate) fn admit_load<K: Key, H: Orderly<K>, R: Orderly<K>>(
     key: &K,
 ) -> Result<Places, Denial>
     requires { (H.Line.sound house.now) × (R.Line.sound rival.now) }
-    ensures { result ≡ admitted (load_failed K.Key H.Line R.Line key.now house.now rival.now) (next_places K.Key H.Line R.Line house.now rival.now) }
+    ensures { result ≡ admitted (load_failed K.Key.own H.Line R.Line key.now house.now rival.now) (next_places K.Key.own H.Line R.Line house.now rival.now) }
 {
     if let Some(_) = find(house, rival, key)? {
         return Err(Denial::Present);
@@ -132,7 +132,7 @@ pub(crate) fn admit_add<K: Key, H: Orderly<K>, R: Orderly<K>>(
     goal: usize,
 ) -> Result<Places, Denial>
     requires { (H.Line.sound house.now) × (R.Line.sound rival.now) }
-    ensures { result ≡ admitted (failed K.Key H.Line R.Line (add (K.Key.value key.now) goal) house.now rival.now ledger) (next_places K.Key H.Line R.Line house.now rival.now) }
+    ensures { result ≡ admitted (failed K.Key.own H.Line R.Line (add (K.Key.value key.now) goal) house.now rival.now ledger) (next_places K.Key.own H.Line R.Line house.now rival.now) }
 {
     if ledger.requests == COUNTER_LIMIT {
         return Err(Denial::Exhausted);

@@ -35,7 +35,7 @@ fn play_logs<K: Key, H: Orderly<K>, R: Orderly<K>>(
 ) -> Result<Ledger, Fault>
     requires sound { (H.Line.sound house.old) × (R.Line.sound rival.old) }
     requires fresh { passed_of plan.cursor ≡ 0 }
-    ensures { PlayedOut K.Key H.Line R.Line house.old rival.old bench.ledger page.entry plan.entry result house.new rival.new }
+    ensures { PlayedOut K.Key.own H.Line R.Line house.old rival.old bench.ledger page.entry plan.entry result house.new rival.new }
 {
     let first = load_all(&mut bench, house, rival, &mut page)?;
     let mut bench = bench.start(house, rival);
@@ -54,7 +54,7 @@ pub fn judge<K: Key, H: Orderly<K>, R: Orderly<K>>(
     plan: &[u8],
 ) -> Result<Ledger, Fault>
     requires { (H.Line.sound house.old) × (R.Line.sound rival.old) }
-    ensures { Judged K.Key H.Line R.Line page.now plan.now house.old rival.old result house.new rival.new }
+    ensures { Judged K.Key.own H.Line R.Line page.now plan.now house.old rival.old result house.new rival.new }
 {
     let bench = said_of(Log::Page, 0, Loading::open(house, rival))?;
     let page = said_of(Log::Page, 0, PageReader::open::<K>(page))?;

@@ -16,7 +16,7 @@ pub(crate) fn load_all<K: Key, H: Orderly<K>, R: Orderly<K>>(
     page: &mut PageReader<'_>,
 ) -> Result<Option<Asked<K>>, Fault>
     requires { (H.Line.sound house.old) × (R.Line.sound rival.old) }
-    ensures { Loads K.Key H.Line R.Line house.old rival.old bench.old.ledger page.old result house.new rival.new bench.new.ledger page.new }
+    ensures { Loads K.Key.own H.Line R.Line house.old rival.old bench.old.ledger page.old result house.new rival.new bench.new.ledger page.new }
 {
     loop {
         let at = page.passed() + 1;
@@ -53,7 +53,7 @@ fn request_by<K: Key>(
 
 // The next request of a page, or none at its end.
 fn next_request<K: Key>(page: &mut PageReader<'_>) -> Result<Option<Asked<K>>, Fault>
-    ensures { ReadOn K.Key result page.old page.new }
+    ensures { ReadOn K.Key.own result page.old page.new }
 {
     let at = page.passed() + 1;
     request_by(at, next_entry::<K>(page))
@@ -69,7 +69,7 @@ pub(crate) fn serve_all<K: Key, H: Orderly<K>, R: Orderly<K>>(
     first: Option<Asked<K>>,
 ) -> Result<(), Fault>
     requires { (H.Line.sound house.old) × (R.Line.sound rival.old) }
-    ensures { ServesAll K.Key H.Line R.Line first house.old rival.old bench.old.ledger page.old plan.old result house.new rival.new bench.new.ledger plan.new }
+    ensures { ServesAll K.Key.own H.Line R.Line first house.old rival.old bench.old.ledger page.old plan.old result house.new rival.new bench.new.ledger plan.new }
 {
     let mut next = first;
     while let Some(asked) = next {

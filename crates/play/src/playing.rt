@@ -18,8 +18,8 @@ fn play_line<K: Key, H: Orderly<K>, R: Orderly<K>>(
     rival: &mut R,
     line: &str,
 ) -> Result<(Standing, Outcome), AllocError>
-    requires { Playing K.Key H.Line R.Line house.old rival.old (ledger_of standing) }
-    ensures { IfOk result (λ p. Playing K.Key H.Line R.Line house.new rival.new (ledger_of p.0)) }
+    requires { Playing K.Key.own H.Line R.Line house.old rival.old (ledger_of standing) }
+    ensures { IfOk result (λ p. Playing K.Key.own H.Line R.Line house.new rival.new (ledger_of p.0)) }
 {
     match read_entry(heap, line)? {
         Some(Entry::Calling(call)) => Ok(standing.make(house, rival, &call)),

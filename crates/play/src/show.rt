@@ -46,7 +46,7 @@ pub(crate) fn report<K: Key, H: Orderly<K>, R: Orderly<K>>(
     house: &H,
     rival: &R,
 ) -> io::Result<()>
-    requires { Playing K.Key H.Line R.Line house.now rival.now ledger }
+    requires { Playing K.Key.own H.Line R.Line house.now rival.now ledger }
 {
     let Ledger {
         requests,

@@ -20,8 +20,8 @@ fn load<K: Key, H: Orderly<K>, R: Orderly<K>>(
     rival: &mut R,
     spelled: &[u8],
 ) -> Result<(), Denial>
-    requires { Playing K.Key H.Line R.Line house.old rival.old bench.old.ledger }
-    ensures { Playing K.Key H.Line R.Line house.new rival.new bench.new.ledger }
+    requires { Playing K.Key.own H.Line R.Line house.old rival.old bench.old.ledger }
+    ensures { Playing K.Key.own H.Line R.Line house.new rival.new bench.new.ledger }
 {
     let key = K::read(spelled)?;
     bench.load(house, rival, key)
@@ -34,8 +34,8 @@ fn lookup<K: Key, H: Orderly<K>, R: Orderly<K>>(
     spelled: &[u8],
     goal: usize,
 ) -> Result<(), Denial>
-    requires { Playing K.Key H.Line R.Line house.old rival.old bench.old.ledger }
-    ensures { Playing K.Key H.Line R.Line house.new rival.new bench.new.ledger }
+    requires { Playing K.Key.own H.Line R.Line house.old rival.old bench.old.ledger }
+    ensures { Playing K.Key.own H.Line R.Line house.new rival.new bench.new.ledger }
 {
     let key = K::read(spelled)?;
     bench.lookup(house, rival, key, goal)
@@ -48,8 +48,8 @@ fn add<K: Key, H: Orderly<K>, R: Orderly<K>>(
     spelled: &[u8],
     goal: usize,
 ) -> Result<(), Denial>
-    requires { Playing K.Key H.Line R.Line house.old rival.old bench.old.ledger }
-    ensures { Playing K.Key H.Line R.Line house.new rival.new bench.new.ledger }
+    requires { Playing K.Key.own H.Line R.Line house.old rival.old bench.old.ledger }
+    ensures { Playing K.Key.own H.Line R.Line house.new rival.new bench.new.ledger }
 {
     let key = K::read(spelled)?;
     bench.add(house, rival, key, goal)
@@ -61,8 +61,8 @@ fn remove<K: Key, H: Orderly<K>, R: Orderly<K>>(
     rival: &mut R,
     spelled: &[u8],
 ) -> Result<(), Denial>
-    requires { Playing K.Key H.Line R.Line house.old rival.old bench.old.ledger }
-    ensures { Playing K.Key H.Line R.Line house.new rival.new bench.new.ledger }
+    requires { Playing K.Key.own H.Line R.Line house.old rival.old bench.old.ledger }
+    ensures { Playing K.Key.own H.Line R.Line house.new rival.new bench.new.ledger }
 {
     let key = K::read(spelled)?;
     bench.remove(house, rival, key)
@@ -75,8 +75,8 @@ fn serve<K: Key, H: Orderly<K>, R: Orderly<K>>(
     rival: &mut R,
     call: &Call,
 ) -> Outcome
-    requires { Playing K.Key H.Line R.Line house.old rival.old bench.old.ledger }
-    ensures { Playing K.Key H.Line R.Line house.new rival.new bench.new.ledger }
+    requires { Playing K.Key.own H.Line R.Line house.old rival.old bench.old.ledger }
+    ensures { Playing K.Key.own H.Line R.Line house.new rival.new bench.new.ledger }
 {
     match call {
         Call::Lookup(key, goal) => Outcome::of(lookup(bench, house, rival, key, *goal)),
@@ -94,8 +94,8 @@ fn make_loading<K: Key, H: Orderly<K>, R: Orderly<K>>(
     rival: &mut R,
     call: &Call,
 ) -> (Standing, Outcome)
-    requires { Playing K.Key H.Line R.Line house.old rival.old bench.ledger }
-    ensures { Playing K.Key H.Line R.Line house.new rival.new (ledger_of result.0) }
+    requires { Playing K.Key.own H.Line R.Line house.old rival.old bench.ledger }
+    ensures { Playing K.Key.own H.Line R.Line house.new rival.new (ledger_of result.0) }
 {
     match call {
         Call::Load(key) => {
@@ -114,8 +114,8 @@ fn make_running<K: Key, H: Orderly<K>, R: Orderly<K>>(
     rival: &mut R,
     call: &Call,
 ) -> (Standing, Outcome)
-    requires { Playing K.Key H.Line R.Line house.old rival.old bench.ledger }
-    ensures { Playing K.Key H.Line R.Line house.new rival.new (ledger_of result.0) }
+    requires { Playing K.Key.own H.Line R.Line house.old rival.old bench.ledger }
+    ensures { Playing K.Key.own H.Line R.Line house.new rival.new (ledger_of result.0) }
 {
     if let Call::Close = call {
         return (Standing::Closed(bench.close(house, rival)), Outcome::Done);
@@ -129,7 +129,7 @@ impl Standing {
     pub(crate) fn open<K: Key, H: Orderly<K>, R: Orderly<K>>(house: &H, rival: &R) -> Standing
         requires sound { (H.Line.sound house.now) × (R.Line.sound rival.now) }
         requires empty { (H.Line.keys house.now ≡ []) × (R.Line.keys rival.now ≡ []) }
-        ensures { Playing K.Key H.Line R.Line house.now rival.now (ledger_of result) }
+        ensures { Playing K.Key.own H.Line R.Line house.now rival.now (ledger_of result) }
     {
         Standing::Loading(Loading::open(house, rival).unwrap())
     }
@@ -141,8 +141,8 @@ impl Standing {
         rival: &mut R,
         call: &Call,
     ) -> (Standing, Outcome)
-        requires { Playing K.Key H.Line R.Line house.old rival.old (ledger_of self) }
-        ensures { Playing K.Key H.Line R.Line house.new rival.new (ledger_of result.0) }
+        requires { Playing K.Key.own H.Line R.Line house.old rival.old (ledger_of self) }
+        ensures { Playing K.Key.own H.Line R.Line house.new rival.new (ledger_of result.0) }
     {
         match self {
             Standing::Loading(bench) => make_loading(bench, house, rival, call),

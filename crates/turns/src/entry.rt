@@ -25,7 +25,7 @@ pub enum Entry<K> {
 
 // A request by its key.
 fn asked_of<K: Key>(request: Request<'_>) -> Result<Asked<K>, Denial>
-    ensures { meant (λ asked. requested (asked_of K.Key asked)) result ≡ read_item K.Key (request_of request.entry) }
+    ensures { meant (λ asked. requested (asked_of K.Key.own asked)) result ≡ read_item K.Key.own (request_of request.entry) }
 {
     let key = K::read(request.spelling())?;
     match request {
@@ -37,7 +37,7 @@ fn asked_of<K: Key>(request: Request<'_>) -> Result<Asked<K>, Denial>
 
 // A page record by its key.
 fn entry_of<K: Key>(given: PageRecord<'_>) -> Result<Entry<K>, Denial>
-    ensures { meant (item_of K.Key) result ≡ read_item K.Key (entry_of given.entry) }
+    ensures { meant (item_of K.Key.own) result ≡ read_item K.Key.own (entry_of given.entry) }
 {
     match given {
         PageRecord::First(spelling) => Ok(Entry::First(K::read(spelling)?)),
@@ -47,7 +47,7 @@ fn entry_of<K: Key>(given: PageRecord<'_>) -> Result<Entry<K>, Denial>
 
 // The next record of a page, with its key read, or none at the end.
 pub fn next_entry<K: Key>(page: &mut PageReader<'_>) -> Result<Option<Entry<K>>, Denial>
-    ensures read { page_left K.Key page.old ≡ read_by K.Key result (page_left K.Key page.new) }
+    ensures read { page_left K.Key.own page.old ≡ read_by K.Key.own result (page_left K.Key.own page.new) }
     ensures advanced { Advanced result page.old page.new }
 {
     let Some(given) = page.next::<K>()? else {

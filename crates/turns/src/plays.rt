@@ -21,7 +21,7 @@ pub fn make_request<K: Key, H: Orderly<K>, R: Orderly<K>>(
     plan: usize,
 ) -> Result<(), Fault>
     requires { (H.Line.sound house.old) × (R.Line.sound rival.old) }
-    ensures { (rest : Script K.Key.Value) → Continues K.Key H.Line R.Line house.old rival.old bench.old.ledger (requesting (asked_of K.Key asked) goal page plan rest) house.new rival.new bench.new.ledger (resuming result (λ _. rest)) }
+    ensures { (rest : Script K.Key.Value) → Continues K.Key.own H.Line R.Line house.old rival.old bench.old.ledger (requesting (asked_of K.Key.own asked) goal page plan rest) house.new rival.new bench.new.ledger (resuming result (λ _. rest)) }
 {
     match asked {
         Asked::Lookup(key) => said_of_request(bench.lookup(house, rival, key, goal), page, plan),
@@ -69,7 +69,7 @@ fn play_exchanges<K: Key, H: Orderly<K>, R: Orderly<K>>(
     plan: &mut PlanReader<'_>,
 ) -> Result<usize, Fault>
     requires { (H.Line.sound house.now) × (R.Line.sound rival.old) }
-    ensures { UpToGoal K.Key H.Line R.Line house.now rival.old bench.old.ledger plan.old result rival.new bench.new.ledger plan.new }
+    ensures { UpToGoal K.Key.own H.Line R.Line house.now rival.old bench.old.ledger plan.old result rival.new bench.new.ledger plan.new }
 {
     loop {
         match next_move(plan)? {
@@ -92,7 +92,7 @@ pub fn serve<K: Key, H: Orderly<K>, R: Orderly<K>>(
     plan: &mut PlanReader<'_>,
 ) -> Result<(), Fault>
     requires { (H.Line.sound house.old) × (R.Line.sound rival.old) }
-    ensures { Serves K.Key H.Line R.Line (asked_of K.Key asked) page house.old rival.old bench.old.ledger plan.old result house.new rival.new bench.new.ledger plan.new }
+    ensures { Serves K.Key.own H.Line R.Line (asked_of K.Key.own asked) page house.old rival.old bench.old.ledger plan.old result house.new rival.new bench.new.ledger plan.new }
 {
     let goal = play_exchanges(bench, house, rival, plan)?;
     make_request(bench, house, rival, asked, goal, page, plan.passed())

@@ -20,7 +20,7 @@ impl Running {
         goal: usize,
     ) -> Result<(), Denial>
         requires { (H.Line.sound house.old) × (R.Line.sound rival.old) }
-        ensures { Called K.Key H.Line R.Line (lookup (K.Key.value key) goal) house.old rival.old self.old.ledger result house.new rival.new self.new.ledger }
+        ensures { Called K.Key.own H.Line R.Line (lookup (K.Key.value key) goal) house.old rival.old self.old.ledger result house.new rival.new self.new.ledger }
     {
         let places = admit_lookup(self.ledger, house, rival, &key, goal)?;
         bring_both(house, rival, places, goal)?;
@@ -37,7 +37,7 @@ impl Running {
         goal: usize,
     ) -> Result<(), Denial>
         requires { (H.Line.sound house.old) × (R.Line.sound rival.old) }
-        ensures { Called K.Key H.Line R.Line (add (K.Key.value key) goal) house.old rival.old self.old.ledger result house.new rival.new self.new.ledger }
+        ensures { Called K.Key.own H.Line R.Line (add (K.Key.value key) goal) house.old rival.old self.old.ledger result house.new rival.new self.new.ledger }
     {
         let places = admit_add(self.ledger, house, rival, &key, goal)?;
         append_both(house, rival, key)?;
@@ -54,7 +54,7 @@ impl Running {
         key: K,
     ) -> Result<(), Denial>
         requires { (H.Line.sound house.old) × (R.Line.sound rival.old) }
-        ensures { Called K.Key H.Line R.Line (remove (K.Key.value key)) house.old rival.old self.old.ledger result house.new rival.new self.new.ledger }
+        ensures { Called K.Key.own H.Line R.Line (remove (K.Key.value key)) house.old rival.old self.old.ledger result house.new rival.new self.new.ledger }
     {
         let places = admit_remove(self.ledger, house, rival, &key)?;
         take_both(house, rival, places)?;
@@ -70,7 +70,7 @@ impl Running {
         place: usize,
     ) -> Result<(), Denial>
         requires { (H.Line.sound house.now) × (R.Line.sound rival.old) }
-        ensures { Called K.Key H.Line R.Line (exchange place) house.now rival.old self.old.ledger result house.now rival.new self.new.ledger }
+        ensures { Called K.Key.own H.Line R.Line (exchange place) house.now rival.old self.old.ledger result house.now rival.new self.new.ledger }
     {
         if self.ledger.paid == COUNTER_LIMIT {
             return Err(Denial::Exhausted);
@@ -83,7 +83,7 @@ impl Running {
     // Ends the requests.
     pub fn close<K: Key, H: Orderly<K>, R: Orderly<K>>(self, house: &H, rival: &R) -> Closed
         requires { (H.Line.sound house.now) × (R.Line.sound rival.now) }
-        ensures { Called K.Key H.Line R.Line close house.now rival.now self.ledger (Ok tt) house.now rival.now result.ledger }
+        ensures { Called K.Key.own H.Line R.Line close house.now rival.now self.ledger (Ok tt) house.now rival.now result.ledger }
     {
         let ledger = kept(self.ledger, house, rival);
         Closed { ledger }
