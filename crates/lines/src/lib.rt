@@ -5,14 +5,11 @@ ghost use Rattle.std.specs.Prelude.{◌≡◌, ℕ, ◌≤◌, Bool, List, map, 
 ghost use Rattle.lines.specs.Orders.{allowed, key_at, is_place, taken_out, may_exchange, exchanged, may_bring_forward, brought_forward};
 ghost use Rattle.lines.specs.Places.{place_of, appended, Different};
 
-use keys::{Denial, Key};
+mod places;
 
-// Whether the key at `from` of `count` keys can be brought to `to`.
-fn may_bring_forward(from: usize, to: usize, count: usize) -> bool
-    ensures { result ≡ may_bring_forward from to count }
-{
-    1 <= to && to <= from && from <= count
-}
+use keys::{Denial, Key};
+use places::may_bring_forward;
+pub use places::{is_place, may_exchange};
 
 // A line means a list of keys in order and a limit, the most keys that it takes. Places count from 1.
 // Each call may rely on the line being sound, and leaves it so, denied or not.
