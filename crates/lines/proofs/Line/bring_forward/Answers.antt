@@ -1,4 +1,4 @@
-use Rattle.std.proofs.Common.{◌≡◌, ℕ, suc, ◌-◌, true, false, length, sym, refl, ap, ◌∙◌, arith, rules}
+use Rattle.std.proofs.Common.{◌≡◌, suc, ◌-◌, true, false, length, sym, refl, ap, ◌∙◌, arith, rules}
 use Rattle.std.proofs.lemmas.Bool.Decides.{nat_tests}
 use Rattle.lines.specs.Orders.{allowed, exchanged, may_bring_forward, brought_forward}
 use Rattle.lines.proofs.Forward.{forward-range, length_exchanged, forward-denied, forward-stays, forward-step}
@@ -7,7 +7,7 @@ use Rattle.lines.proofs.Line.bring_forward.Goals as goal
 pub returns-then-not-may_bring_forward : goal.returns-then-not-may_bring_forward
 returns-then-not-may_bring_forward g c =
     let xs = g.Self.Line.keys c.args.self.now in
-    let not : may_bring_forward c.args.from c.args.to (length xs) ≡ false = ap (may_bring_forward c.args.from c.args.to) (sym c.count.ensures) ∙ sym c.may_bring_forward.ensures ∙ c.if-not-may_bring_forward.true in
+    let not : may_bring_forward c.args.from c.args.to (length xs) ≡ false = cc in
     record {
       sound = search rules;
       limit = search rules;
@@ -18,12 +18,9 @@ returns-then-not-may_bring_forward g c =
 pub loop-place-init : goal.loop-place-init
 loop-place-init g c =
     let xs = g.Self.Line.keys c.args.self.now in
-    let may : may_bring_forward c.args.from c.args.to (length xs) ≡ true = ap (may_bring_forward c.args.from c.args.to) (sym c.count.ensures) ∙ sym c.may_bring_forward.ensures ∙ c.if-not-may_bring_forward.false in
+    let may : may_bring_forward c.args.from c.args.to (length xs) ≡ true = cc in
     let range = forward-range c.args.from c.args.to (length xs) may in
     (may, range.1, omega arith, c.requires, refl, refl, sym (forward-stays c.args.from xs range.2))
-
-pub exchange-requires : goal.exchange-requires
-exchange-requires g c = search rules
 
 pub loop-place-preserved : goal.loop-place-preserved
 loop-place-preserved g c =
@@ -48,8 +45,7 @@ returns-in_err-exchange g c =
     let n = c.loop-place.invariant.5 in
     let was = c.in_err-exchange.was in
     let gives = c.exchange.ensures.gives in
-    let z : ◌≡◌ {A = ℕ} 0 1 = grind (arith, nat_tests) in
-    absurd (omega arith)
+    absurd (grind (arith, nat_tests))
 
 pub returns : goal.returns
 returns g c =
