@@ -5,7 +5,7 @@ ghost use Rattle.std.specs.Ordering.{on};
 ghost use Rattle.std.specs.Char.{to_ascii_lowercase};
 ghost use Rattle.std.specs.Int.{is_in_range};
 ghost use Rattle.std.specs.Str.{bytes_eq};
-ghost use Rattle.keys.specs.Names.{in_alphabet, name_byte, name_of, name_read, spells_name};
+ghost use Rattle.keys.specs.Names.{in_alphabet, name_length, name_byte, name_of, name_read, spells_name};
 ghost use Rattle.std.proofs.lemmas.Slice.Eq.{bytes_eq-Decides};
 ghost use Rattle.keys.specs.Laws.{reads-name};
 ghost use Rattle.std.proofs.Common.{rules};
@@ -24,15 +24,14 @@ pub struct Name {
 impl Name {
     // What each byte of the record means; the first `meant_len` are the record's name.
     fn meant_bytes(&self) -> [u8; 16]
-        ensures { take (length (name_of self.now)) result ≡ name_of self.now }
+        ensures { take (name_length self.now.len) result ≡ name_of self.now }
     {
         self.bytes.map(meant_byte)
     }
 
     // The length of the record's name.
     fn meant_len(&self) -> usize
-        ensures value { result ≡ length (name_of self.now) }
-        ensures bound { result ≤ 16 }
+        ensures { result ≡ name_length self.now.len }
     {
         usize::from(self.len.clamp(1, 16))
     }
