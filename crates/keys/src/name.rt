@@ -1,8 +1,7 @@
 // Names as keys: 1 to 16 bytes of letters, digits and hyphens, where capitals mean small letters.
-ghost use Rattle.std.specs.Prelude.{◌≡◌, ℕ, ◌≤◌, List, length, take};
+ghost use Rattle.std.specs.Prelude.{◌≡◌, ℕ, List, take};
 ghost use Rattle.std.specs.Cmp.Rules.{comparing};
 ghost use Rattle.std.specs.Ordering.{on};
-ghost use Rattle.std.specs.Char.{to_ascii_lowercase};
 ghost use Rattle.std.specs.Int.{is_in_range};
 ghost use Rattle.std.specs.Str.{bytes_eq};
 ghost use Rattle.keys.specs.Names.{in_alphabet, name_length, name_byte, name_of, name_read, spells_name};
