@@ -9,7 +9,7 @@ use Rattle.std.proofs.lemmas.Bool.Decides.{nat_tests}
 use denote.Ref.{Bor}
 use borrow.Rule.Slice.PartMut.{mid_of, put_mid}
 use Rattle.keys.specs.declared.denial.Denial.TheVariants.{OutOfRange}
-use Rattle.lines.specs.Orders.{key_at, is_place, taken_out, may_exchange, exchanged}
+use Rattle.lines.specs.Orders.{key_at, taken_out, may_exchange, exchanged}
 use Rattle.lines.specs.Places.{stands, walk, place_of}
 use Rattle.lines.proofs.Reach.{key_at-outside, key_at-within}
 use Rattle.row.specs.declared.Row.{Row}
@@ -17,18 +17,24 @@ use Rattle.row.specs.Rows.{row_keys}
 
 module _ {X : Type 0} where
   -- the key at a place is the one at the index below, if there is one
-  pub key_at-got : (place at : ℕ) (xs : List X) (r : Option (Bor X)) → suc at ≡ place → IsItemAt xs at r → ok_or (option_copied r) OutOfRange ≡ key_at place xs
-  key_at-got place at xs None e h = sym (key_at-outside place xs (λ a b. omega (arith, h.3)))
-  key_at-got place at xs (Some x) e h = ap Ok h.1 ∙ rw e at (sym (key_at-within at xs x.now h.3.0))
+  pub got_key : (place at : ℕ) (xs : List X) (r : Option (Bor X)) → suc at ≡ place → IsItemAt xs at r → ok_or (option_copied r) OutOfRange ≡ key_at place xs
+  got_key place at xs None e h = sym (key_at-outside place xs (λ a b. omega (arith, h.3)))
+  got_key place at xs (Some x) e h = ap Ok h.1 ∙ rw e at (sym (key_at-within at xs x.now h.3.0))
 
   -- the cells from a place to the nth are rotated by one: all but the last of the first n are the list without the key at that place
-  rotated : (q m k : ℕ) (xs : List X) → q + k ≡ suc m → suc m ≤ length xs → q ≤ m → take m (put_mid q k xs (drop 1 (mid_of q k xs) ++ take 1 (mid_of q k xs))) ≡ taken_out (suc q) (take (suc m) xs)
-  rotated q m k [] e l h = absurd (omega arith)
-  rotated zero m k (x ∷ xs) e l h =
+  turned : (q m k : ℕ) (xs : List X) → q + k ≡ suc m → suc m ≤ length xs → q ≤ m → take m (put_mid q k xs (drop 1 (mid_of q k xs) ++ take 1 (mid_of q k xs))) ≡ taken_out (suc q) (take (suc m) xs)
+  turned q m k [] e l h = absurd (omega arith)
+  turned zero m k (x ∷ xs) e l h =
       let s : k ≡ suc m = omega arith in
       rw (s, append_assoc (take m xs) (x ∷ []) (drop m xs)) (take_at (take m xs) (x ∷ drop m xs) m (length-take-le m xs (omega arith)))
-  rotated (suc q) zero k (x ∷ xs) e l h = absurd (omega arith)
-  rotated (suc q) (suc m) k (x ∷ xs) e l h = ap (λ ys. x ∷ ys) (rotated q m k xs (omega arith) (omega arith) (omega arith))
+  turned (suc q) zero k (x ∷ xs) e l h = absurd (omega arith)
+  turned (suc q) (suc m) k (x ∷ xs) e l h = ap (λ ys. x ∷ ys) (turned q m k xs (omega arith) (omega arith) (omega arith))
+
+  pub rotated : (n p : ℕ) (xs ys : List X) → 1 ≤ p → p ≤ n → n ≤ length xs → ys ≡ drop 1 (mid_of (p - 1) (n - (p - 1)) xs) ++ take 1 (mid_of (p - 1) (n - (p - 1)) xs) → take (n - 1) (put_mid (p - 1) (n - (p - 1)) xs ys) ≡ taken_out p (take n xs)
+  rotated n p xs ys l h m e =
+      let q : suc (p - 1) ≡ p = omega arith in
+      let s : suc (n - 1) ≡ n = omega arith in
+      rw e (rw (q, s) at (turned (p - 1) (n - 1) (n - (p - 1)) xs (omega arith) (omega arith) (omega arith)))
 
   take-exchanged : (n p : ℕ) (xs : List X) → p < n → take n (exchanged p xs) ≡ exchanged p (take n xs)
   take-exchanged zero p xs h = absurd (omega arith)
@@ -70,15 +76,6 @@ module _ {K : Type 0} {kind : _} (row : Row K kind) where
   length-keys = let h = row.within in length-take-le row.count row.cells.now (omega arith)
 
   module _ (p : ℕ) (cells : List K) where
-    pub keys-rotated : is_place p row.count ≡ true → cells ≡ drop 1 (mid_of (p - 1) (row.count - (p - 1)) row.cells.now) ++ take 1 (mid_of (p - 1) (row.count - (p - 1)) row.cells.now) → take (row.count - 1) (put_mid (p - 1) (row.count - (p - 1)) row.cells.now cells) ≡ taken_out p (row_keys row)
-    keys-rotated h e =
-        let l = row.within in
-        let low : 1 ≤ p = grind (arith, nat_tests) in
-        let high : p ≤ row.count = grind (arith, nat_tests) in
-        let q : suc (p - 1) ≡ p = omega arith in
-        let n : suc (row.count - 1) ≡ row.count = omega arith in
-        rw e (rw (q, n) at (rotated (p - 1) (row.count - 1) (row.count - (p - 1)) row.cells.now (omega arith) (omega arith) (omega arith)))
-
     pub keys-swapped : may_exchange p row.count ≡ true → cells ≡ holes.swap row.cells.now (p - 1) p → take row.count cells ≡ exchanged p (row_keys row)
     keys-swapped h e =
         let l = row.within in

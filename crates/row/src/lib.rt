@@ -1,8 +1,8 @@
 // A row: a line that keeps its keys in order in cells that its user provides.
 #![tactic(auto)]
 
-ghost use Rattle.std.specs.Prelude.{◌≡◌, ◌≤◌, [], map, length, take};
-ghost use Rattle.lines.specs.Orders.{key_at, is_place, may_exchange};
+ghost use Rattle.std.specs.Prelude.{◌≡◌, ◌-◌, ◌≤◌, [], map, length, take, ◌==◌};
+ghost use Rattle.lines.specs.Orders.{key_at, is_place, taken_out, may_exchange};
 ghost use Rattle.lines.specs.Places.{place_of, Different, limit_for};
 
 use keys::{Denial, Key};
@@ -34,6 +34,13 @@ impl<'a, K: Key> Row<'a, K> {
     {
         &self.cells[..self.count]
     }
+
+    // Whether the row takes no more keys.
+    fn is_full(&self) -> bool
+        ensures { result ≡ (self.now.count == row_limit self.now) }
+    {
+        self.count == self.limit()
+    }
 }
 
 // Whether a place is one of `count`.
@@ -51,6 +58,7 @@ fn has_next(place: usize, count: usize) -> bool
 }
 
 // The key at a place among keys.
+#[tactic(auto, using(crate::proofs::Cells::got_key))]
 fn pick<K: Key>(keys: &[K], place: usize) -> Result<K, Denial>
     ensures { result ≡ key_at place keys.now }
 {
@@ -64,6 +72,16 @@ fn search<K: Key>(keys: &[K], key: &K) -> Option<usize>
 {
     let at = keys.iter().position(|other| key.same(other))?;
     Some(at + 1)
+}
+
+// Moves each of the first `count` keys that stands behind a place up by one, and the key at that place behind them.
+#[tactic(auto, using(crate::proofs::Cells::rotated))]
+fn close_up<K: Key>(cells: &mut [K], place: usize, count: usize)
+    requires { (1 ≤ place) × ((place ≤ count) × (count ≤ length cells.old)) }
+    ensures keys { take (count - 1) cells.new ≡ taken_out place (take count cells.old) }
+    ensures len { length cells.new ≡ length cells.old }
+{
+    cells[place - 1..count].rotate_left(1);
 }
 
 impl<'a, K: Key> Line<K> for Row<'a, K> {
@@ -95,7 +113,7 @@ impl<'a, K: Key> Line<K> for Row<'a, K> {
         if self.place_of(&key).is_some() {
             return Err(Denial::Present);
         }
-        if self.count == self.limit() {
+        if self.is_full() {
             return Err(Denial::Full);
         }
         self.cells[self.count] = key;
@@ -107,7 +125,7 @@ impl<'a, K: Key> Line<K> for Row<'a, K> {
         if !is_place(place, self.count) {
             return Err(Denial::OutOfRange);
         }
-        self.cells[place - 1..self.count].rotate_left(1);
+        close_up(self.cells, place, self.count);
         self.count -= 1;
         Ok(())
     }

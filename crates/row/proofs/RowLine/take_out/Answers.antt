@@ -3,7 +3,7 @@ use Rattle.std.proofs.lemmas.Bool.Decides.{nat_tests}
 use Rattle.lines.proofs.Kept.{different-taken_out}
 use Rattle.lines.proofs.Reach.{taken_out-outside}
 use Rattle.row.specs.Rows.{row_keys}
-use Rattle.row.proofs.Cells.{length-keys, keys-rotated}
+use Rattle.row.proofs.Cells.{length-keys}
 use Rattle.row.proofs.RowLine.take_out.Goals as goal
 
 pub returns-then-not-is_place-clause-keys : goal.returns-then-not-is_place-clause-keys
@@ -14,8 +14,4 @@ returns-then-not-is_place-clause-keys g c =
 pub invariant_of-self-clause-differ : goal.invariant_of-self-clause-differ
 invariant_of-self-clause-differ g c =
     let row = c.args.self.now in
-    let keys = keys-rotated row c.args.place c.rotate_left.new.self (grind arith) c.rotate_left.ensures.after in
-    rw keys (different-taken_out g.K.Key.equal g.K.Key.value c.args.place (row_keys row) row.differ)
-
-pub returns-clause-keys : goal.returns-clause-keys
-returns-clause-keys g c = keys-rotated c.args.self.now c.args.place c.rotate_left.new.self (grind arith) c.rotate_left.ensures.after
+    rw c.close_up.ensures.keys (different-taken_out g.K.Key.equal g.K.Key.value c.args.place (row_keys row) row.differ)
