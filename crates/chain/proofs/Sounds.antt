@@ -5,14 +5,25 @@ use Rattle.lines.specs.Orders.{key_at, taken_out, exchanged}
 use Rattle.lines.specs.Places.{occurrences, stands, Different}
 use Rattle.lines.proofs.Kept.{different-taken_out, different-exchanged, different-appended}
 use Rattle.chain.specs.declared.Cell.{Cell}
+use Rattle.chain.specs.declared.Chain.{Chain}
 use Rattle.chain.specs.Ways.{way, beyond, picked, moved_back}
-use Rattle.chain.specs.Chains.{keys_in, nexts_in, room, chained, Whole, Sound}
+use Rattle.chain.specs.Chains.{keys_in, nexts_in, room, chained, Whole}
 use Rattle.chain.proofs.Segments.{Runs, way-front, way_parts, way_step, way-take, leads-from-way, leads-within}
 use Rattle.chain.proofs.Moves.{apart-front}
 use Rattle.chain.proofs.Orders.{length-moved_back, occurrences-moved_back, take-moved_back, moved_back-one, take-exchanged, key_at-at}
 use Rattle.chain.proofs.Picked.{picked-append, length-picked, picked-taken_out, picked-exchanged, picked-set-other, one_set}
 use Rattle.chain.proofs.Cells.{length-nexts, length-keys, same-room, beyond-there}
 use Rattle.chain.proofs.Found.{read-key}
+
+-- the way is whole, and the keys of its first `count` cells differ
+pub record Sound {K V : Type 0} (equal : V → V → Bool) (value : K → V) (cells : List (Cell K)) (head count : ℕ) : Type 0 where
+  pub whole : Whole cells head
+  pub within : count ≤ room cells
+  pub differ : Different equal (map value (chained cells head count))
+
+-- as of each chain
+pub sound-chain : {K : Type 0} {kind : _} (chain : Chain K kind) → Sound kind.equal kind.value chain.cells.now chain.head chain.count
+sound-chain chain = record { whole = record { runs = chain.runs; apart = chain.apart }; within = chain.within; differ = chain.differ }
 
 -- a way over the same cells in another order
 whole_from : {K : Type 0} (cells others : List (Cell K)) (head head' : ℕ) → room others ≡ room cells → length (way (nexts_in others) head' (room others)) ≡ length (way (nexts_in cells) head (room cells)) → ((v : ℕ) → occurrences eqb v (way (nexts_in others) head' (room others)) ≡ occurrences eqb v (way (nexts_in cells) head (room cells))) → Whole cells head → Whole others head'
@@ -29,16 +40,14 @@ length_run cells head n h = length-picked (keys_in cells) (way (nexts_in cells) 
 
 -- a whole way whose first keys differ
 sound-from : {K V : Type 0} (equal : V → V → Bool) (value : K → V) (cells : List (Cell K)) (head n : ℕ) → Whole cells head → n ≤ room cells → Different equal (map value (chained cells head n)) → Sound equal value cells head n
-sound-from equal value cells head n w l d = record {
-  whole = w;
-  within = l;
-  counted = length_run cells head n (way-front n (room cells - n) (room cells) (nexts_in cells) head (omega arith) w.runs);
-  differ = d;
-}
+sound-from equal value cells head n w l d = record { whole = w; within = l; differ = d }
 
 module _ {K V : Type 0} {equal : V → V → Bool} {value : K → V} {cells : List (Cell K)} {head count : ℕ} (s : Sound equal value cells head count) where
   pub runs_to : (n : ℕ) → n ≤ room cells → Runs (nexts_in cells) head n
   runs_to n l = way-front n (room cells - n) (room cells) (nexts_in cells) head (omega arith) s.whole.runs
+
+  pub length-chained : length (chained cells head count) ≡ count
+  length-chained = length_run cells head count (runs_to count s.within)
 
   pub key_at-chained : (m here : ℕ) (cell : Cell K) → m < count → here ≡ beyond (nexts_in cells) head m → cell ≡ get_or cells here cell → key_at (suc m) (chained cells head count) ≡ Ok cell.key
   key_at-chained m here cell l e read =

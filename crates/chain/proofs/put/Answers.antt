@@ -1,8 +1,10 @@
-use Rattle.chain.proofs.Cells.{filled-keys, filled-nexts}
+use Rattle.std.proofs.Common.{refl}
+use Rattle.std.proofs.Math.Seq.{map-set_same}
+use Rattle.std.proofs.lemmas.List.{map-set}
 use Rattle.chain.proofs.put.Goals as goal
 
 pub returns : goal.returns
 returns g c = record {
-  keys = filled-keys c.args.cells.now c.args.at c.args.key c.index-cells-at.result.next;
-  nexts = filled-nexts c.args.cells.now c.args.at c.index-cells-at.result c.index-cells-at.is c.args.key;
+  keys = map-set (λ cell. cell.key) c.args.cells.now c.args.at _;
+  nexts = map-set_same (λ cell. cell.next) c.args.cells.now c.args.at _ c.index-cells-at.result refl;
 }
