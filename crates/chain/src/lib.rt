@@ -1,8 +1,8 @@
 // Chains: lines of linked cells.
 #![tactic(auto)]
 
-ghost use Rattle.std.specs.Prelude.{◌≡◌, ℕ, ◌+◌, ◌<◌, ◌≤◌, [], map, length, ◌==◌, nat_eq, slice_index, slice_set};
-ghost use Rattle.lines.specs.Orders.{is_place, may_exchange};
+ghost use Rattle.std.specs.Prelude.{◌≡◌, ℕ, ◌+◌, ◌-◌, ◌<◌, ◌≤◌, [], ◌∷◌, ◌++◌, map, length, None, Ok, ◌==◌, nat_eq, slice_index, slice_set};
+ghost use Rattle.lines.specs.Orders.{key_at, is_place, taken_out, may_exchange};
 ghost use Rattle.lines.specs.Places.{place_of, Different};
 ghost use Rattle.chain.specs.Ways.{way, beyond, redirected, moved_back};
 ghost use Rattle.chain.specs.Chains.{keys_in, nexts_in, room, chained, Whole};
@@ -76,6 +76,23 @@ fn move_back<K: Key>(cells: &mut [Cell<K>], head: usize, place: usize, by: usize
     redirect(cells, head, place - 1, after)
 }
 
+// The place of a key among the first `steps` cells of the way from `from`.
+fn find<K: Key>(cells: &[Cell<K>], from: usize, steps: usize, key: &K) -> Option<usize>
+    requires whole { Whole cells.now from }
+    requires within { steps ≤ room cells.now }
+    ensures { result ≡ place_of K.Key.equal (K.Key.value key.now) (map K.Key.value (chained cells.now from steps)) }
+{
+    let mut here = from;
+    for passed in 0..steps {
+        let cell = cells[here];
+        if key.same(&cell.key) {
+            return Some(passed + 1);
+        }
+        here = cell.next;
+    }
+    None
+}
+
 // Lets each of the first `count` cells point to the one that follows it.
 fn link<K: Key>(cells: &mut [Cell<K>], count: usize)
     requires { count ≤ length cells.old }
@@ -118,6 +135,7 @@ pub struct Chain<'a, K: Key> {
     ghost runs: { length (way (nexts_in cells.now) head (room cells.now)) ≡ room cells.now },
     ghost apart: { Different nat_eq (way (nexts_in cells.now) head (room cells.now)) },
     ghost within: { count ≤ room cells.now },
+    ghost counted: { length (chained cells.now head count) ≡ count },
     ghost differ: { Different K.Key.equal (map K.Key.value (chained cells.now head count)) },
 }
 
@@ -151,6 +169,40 @@ impl<'a, K: Key> Chain<'a, K> {
     {
         self.count == used(self.cells)
     }
+
+    // The key at one of the chain's places.
+    fn key(&self, place: usize) -> K
+        requires { (1 ≤ place) × (place ≤ self.now.count) }
+        ensures { Ok result ≡ key_at place (chained self.now.cells.now self.now.head self.now.count) }
+    {
+        self.cells[self.cell_after(place - 1)].key
+    }
+
+    // Writes a key that is new to the chain into its first free cell, which is not counted yet.
+    fn write_free(&mut self, key: K)
+        requires left { self.old.count < room self.old.cells.now }
+        requires new { place_of K.Key.equal (K.Key.value key) (map K.Key.value (chained self.old.cells.now self.old.head self.old.count)) ≡ None }
+        ensures room { room self.new.cells.now ≡ room self.old.cells.now }
+        ensures count { self.new.count ≡ self.old.count }
+        ensures keys { chained self.new.cells.now self.new.head (self.old.count + 1) ≡ chained self.old.cells.now self.old.head self.old.count ++ key ∷ [] }
+        ensures differ { Different K.Key.equal (map K.Key.value (chained self.new.cells.now self.new.head (self.old.count + 1))) }
+    {
+        let count = self.count;
+        let free = self.cell_after(count);
+        put(self.cells, free, key);
+    }
+
+    // Links the cell at a place in again behind the other keys' cells, where it is still counted.
+    fn move_last(&mut self, place: usize)
+        requires { (1 ≤ place) × (place ≤ self.old.count) }
+        ensures room { room self.new.cells.now ≡ room self.old.cells.now }
+        ensures count { self.new.count ≡ self.old.count }
+        ensures keys { chained self.new.cells.now self.new.head (self.old.count - 1) ≡ taken_out place (chained self.old.cells.now self.old.head self.old.count) }
+        ensures counted { length (chained self.new.cells.now self.new.head (self.old.count - 1)) ≡ self.old.count - 1 }
+        ensures differ { Different K.Key.equal (map K.Key.value (chained self.new.cells.now self.new.head (self.old.count - 1))) }
+    {
+        self.head = move_back(self.cells, self.head, place, self.count - place);
+    }
 }
 
 impl<'a, K: Key> Line<K> for Chain<'a, K> {
@@ -172,20 +224,11 @@ impl<'a, K: Key> Line<K> for Chain<'a, K> {
         if !is_place(place, self.count) {
             return Err(Denial::OutOfRange);
         }
-        Ok(self.cells[self.cell_after(place - 1)].key)
+        Ok(self.key(place))
     }
 
     fn place_of(&self, key: &K) -> Option<usize> {
-        let cells = &*self.cells;
-        let mut here = self.head;
-        for passed in 0..self.count {
-            let cell = cells[here];
-            if key.same(&cell.key) {
-                return Some(passed + 1);
-            }
-            here = cell.next;
-        }
-        None
+        find(self.cells, self.head, self.count, key)
     }
 
     fn append(&mut self, key: K) -> Result<(), Denial> {
@@ -195,10 +238,8 @@ impl<'a, K: Key> Line<K> for Chain<'a, K> {
         if self.is_full() {
             return Err(Denial::Full);
         }
-        let count = self.count;
-        let free = self.cell_after(count);
-        put(self.cells, free, key);
-        self.count = count + 1;
+        self.write_free(key);
+        self.count += 1;
         Ok(())
     }
 
@@ -206,7 +247,7 @@ impl<'a, K: Key> Line<K> for Chain<'a, K> {
         if !is_place(place, self.count) {
             return Err(Denial::OutOfRange);
         }
-        self.head = move_back(self.cells, self.head, place, self.count - place);
+        self.move_last(place);
         self.count -= 1;
         Ok(())
     }

@@ -1,4 +1,4 @@
-use Rattle.std.proofs.Common.{◌<◌, length, arith}
+use Rattle.std.proofs.Common.{arith}
 use Rattle.chain.proofs.Cells.{beyond-there}
 use Rattle.chain.proofs.Sounds.{runs_to, sound-chain}
 use Rattle.chain.proofs.Chain.cell_after.Goals as goal

@@ -1,4 +1,4 @@
-use Rattle.std.proofs.Common.{◌≡◌, ℕ, ◌+◌, ◌<◌, ◌≤◌, length, get_or, arith}
+use Rattle.std.proofs.Common.{◌≡◌, ℕ, ◌+◌, ◌<◌, ◌≤◌, length, get_or, refl, arith}
 use Rattle.chain.specs.Chains.{nexts_in, room}
 use Rattle.chain.proofs.Cells.{same-room, length-nexts}
 use Rattle.chain.proofs.Linked.{runs-linked, apart-linked}
@@ -14,5 +14,6 @@ invariant_of-result g c =
       runs = runs-linked (room cells) (nexts_in cells) within nexts;
       apart = apart-linked (room cells) (nexts_in cells) within nexts;
       within = omega arith;
+      counted = refl;
       differ = λ v. omega arith;
     }
