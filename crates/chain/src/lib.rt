@@ -30,6 +30,7 @@ fn walk<K: Key>(cells: &[Cell<K>], from: usize, steps: usize) -> usize
 }
 
 // Lets the cell `at` point to `to`.
+#[tactic(auto, using(crate::proofs::Writes::writes))]
 fn point<K: Key>(cells: &mut [Cell<K>], at: usize, to: usize)
     requires { at < length cells.old }
     ensures keys { keys_in cells.new ≡ keys_in cells.old }
@@ -39,6 +40,7 @@ fn point<K: Key>(cells: &mut [Cell<K>], at: usize, to: usize)
 }
 
 // Writes a key into the cell `at`.
+#[tactic(auto, using(crate::proofs::Writes::writes))]
 fn put<K: Key>(cells: &mut [Cell<K>], at: usize, key: K)
     requires { at < length cells.old }
     ensures keys { keys_in cells.new ≡ slice_set (keys_in cells.old) at key }
@@ -93,14 +95,14 @@ fn find<K: Key>(cells: &[Cell<K>], from: usize, steps: usize, key: &K) -> Option
     None
 }
 
-// Lets each of the first `count` cells point to the one that follows it.
-fn link<K: Key>(cells: &mut [Cell<K>], count: usize)
-    requires { count ≤ length cells.old }
+// Lets each cell point to the one that follows it.
+#[tactic(auto, using(crate::proofs::Writes::writes))]
+fn link<K: Key>(cells: &mut [Cell<K>])
     ensures keys { keys_in cells.new ≡ keys_in cells.old }
-    ensures nexts { (i : ℕ) → i < count → slice_index (nexts_in cells.new) i ≡ i + 1 }
+    ensures nexts { (i : ℕ) → i < length cells.old → slice_index (nexts_in cells.new) i ≡ i + 1 }
 {
-    for i in 0..count {
-        point(cells, i, i + 1);
+    for (at, cell) in cells.iter_mut().enumerate() {
+        cell.next = at + 1;
     }
 }
 
@@ -146,7 +148,7 @@ impl<'a, K: Key> Chain<'a, K> {
         ensures limit { room result.cells.now ≡ room cells.old }
     {
         let limit = used(cells);
-        link(cells, limit);
+        link(&mut cells[..limit]);
         Chain {
             cells,
             head: 0,
