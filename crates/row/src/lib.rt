@@ -8,7 +8,7 @@ ghost use Rattle.lines.specs.Places.{place_of, Different, limit_for};
 use keys::{Denial, Key};
 use lines::{Line, Orderly};
 
-// The first `count` cells hold the keys; what the others hold means nothing.
+// The first `count` cells hold the keys, which differ; what the other cells hold means nothing.
 #[derive(Drop)]
 pub struct Row<'a, K: Key> {
     cells: &'a mut [K],
