@@ -47,7 +47,7 @@ module _ {K V : Type 0} (equal : V → V → Bool) (value : K → V) (v : V) (al
   found_here e = passed-found equal v all (value cell.key) (map value (chained cells cell.next n)) k e begins
 
   pub passed_here : equal v (value cell.key) ≡ false → Runs (nexts_in cells) cell.next n × Passed equal v all (map value (chained cells cell.next n)) (k + 1)
-  passed_here e = ((walk-on cells here r n (beyond (nexts_in cells) here r) cell some read (left.0, refl)).0, passed-more equal v all (value cell.key) (map value (chained cells cell.next n)) k e begins)
+  passed_here e = ((walk-on cells here r n (beyond (nexts_in cells) here r) cell.next some (read_next cells here cell read (walk-there cells here r n some left.0)) (left.0, refl)).0, passed-more equal v all (value cell.key) (map value (chained cells cell.next n)) k e begins)
 
 -- a key that has no place
 pub missing : {V : Type 0} (equal : V → V → Bool) (v : V) (xs : List V) → place_of equal v xs ≡ None → stands equal v xs ≡ false

@@ -7,3 +7,4 @@ pub mod Cells
 pub mod Found
 pub mod Linked
 pub mod Sounds
+pub mod Writes

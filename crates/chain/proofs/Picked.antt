@@ -2,9 +2,8 @@
 use Rattle.std.proofs.Common.{◌≡◌, ℕ, zero, suc, ◌<◌, eqb, ◌≢◌, List, [], ◌∷◌, ◌++◌, length, take, drop, set, sym, refl, ap, ◌∙◌, arith}
 use Rattle.std.specs.List.{AllByRecursion}
 use Rattle.std.proofs.lemmas.List.{append_assoc}
-use Rattle.lines.specs.Orders.{taken_out, exchanged}
 use Rattle.lines.specs.Places.{occurrences}
-use Rattle.chain.specs.Ways.{picked}
+use Rattle.chain.specs.Ways.{picked, moved_back}
 use Rattle.chain.proofs.Segments.{absent-first}
 
 module _ {X : Type 0} where
@@ -22,22 +21,25 @@ module _ {X : Type 0} where
   length-picked xs [] h = refl
   length-picked xs (w ∷ ws) h = rw (one xs w h.0).1 (ap suc (length-picked xs ws h.1))
 
-  pub picked-taken_out : (p : ℕ) (xs : List X) (ws : List ℕ) → AllByRecursion (λ w. w < length xs) ws → picked xs (taken_out p ws) ≡ taken_out p (picked xs ws)
-  picked-taken_out zero xs ws h = refl
-  picked-taken_out (suc p) xs [] h = refl
-  picked-taken_out (suc zero) xs (w ∷ ws) h = rw (one xs w h.0).1
-  picked-taken_out (suc (suc p)) xs (w ∷ ws) h =
-      let o = one xs w h.0 in
-      rw o.1 (ap (λ ys. o.0 ∷ ys) (picked-taken_out (suc p) xs ws h.1))
+  pub picked-take : (n : ℕ) (xs : List X) (ws : List ℕ) → AllByRecursion (λ w. w < length xs) ws → picked xs (take n ws) ≡ take n (picked xs ws)
+  picked-take zero xs ws h = refl
+  picked-take (suc n) xs [] h = refl
+  picked-take (suc n) xs (w ∷ ws) h = let o = one xs w h.0 in rw o.1 (ap (λ ys. o.0 ∷ ys) (picked-take n xs ws h.1))
 
-  pub picked-exchanged : (p : ℕ) (xs : List X) (ws : List ℕ) → AllByRecursion (λ w. w < length xs) ws → picked xs (exchanged p ws) ≡ exchanged p (picked xs ws)
-  picked-exchanged zero xs ws h = refl
-  picked-exchanged (suc p) xs [] h = refl
-  picked-exchanged (suc zero) xs (w ∷ []) h = rw (one xs w h.0).1
-  picked-exchanged (suc zero) xs (w ∷ v ∷ ws) h = rw ((one xs w h.0).1, (one xs v h.1.0).1)
-  picked-exchanged (suc (suc p)) xs (w ∷ ws) h =
+  picked-drop : (n : ℕ) (xs : List X) (ws : List ℕ) → AllByRecursion (λ w. w < length xs) ws → picked xs (drop n ws) ≡ drop n (picked xs ws)
+  picked-drop zero xs ws h = refl
+  picked-drop (suc n) xs [] h = refl
+  picked-drop (suc n) xs (w ∷ ws) h = rw (one xs w h.0).1 (picked-drop n xs ws h.1)
+
+  pub picked-moved_back : (p n : ℕ) (xs : List X) (ws : List ℕ) → AllByRecursion (λ w. w < length xs) ws → picked xs (moved_back p n ws) ≡ moved_back p n (picked xs ws)
+  picked-moved_back zero n xs ws h = refl
+  picked-moved_back (suc p) n xs [] h = refl
+  picked-moved_back (suc zero) n xs (w ∷ ws) h =
       let o = one xs w h.0 in
-      rw o.1 (ap (λ ys. o.0 ∷ ys) (picked-exchanged (suc p) xs ws h.1))
+      picked-append xs (take n ws) (w ∷ drop n ws) ∙ rw (o.1, picked-take n xs ws h.1, picked-drop n xs ws h.1) refl
+  picked-moved_back (suc (suc p)) n xs (w ∷ ws) h =
+      let o = one xs w h.0 in
+      rw o.1 (ap (λ ys. o.0 ∷ ys) (picked-moved_back (suc p) n xs ws h.1))
 
   -- a write elsewhere, and one here
   drop-set-other : (xs : List X) (b w : ℕ) (x : X) → w ≢ b → take 1 (drop w (set xs b x)) ≡ take 1 (drop w xs)

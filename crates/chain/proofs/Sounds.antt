@@ -1,18 +1,31 @@
 -- What a sound chain's calls rely on, and what they leave.
 use Rattle.std.proofs.Common.{◌≡◌, ℕ, suc, ◌+◌, ◌-◌, ◌<◌, ◌≤◌, min, Bool, false, eqb, List, [], ◌∷◌, ◌++◌, map, length, get_or, take, set, Ok, Decides, sym, ap, ◌∙◌, subst, arith}
 use Rattle.std.specs.List.{AllByRecursion}
-use Rattle.lines.specs.Orders.{key_at, taken_out, exchanged}
+use Rattle.std.proofs.lemmas.List.{take_all}
+use Rattle.lines.specs.Orders.{key_at, taken_out}
 use Rattle.lines.specs.Places.{occurrences, stands, Different}
-use Rattle.lines.proofs.Kept.{different-taken_out, different-exchanged, different-appended}
+use Rattle.lines.proofs.Kept.{different-taken_out, different-appended}
 use Rattle.chain.specs.declared.Cell.{Cell}
+use Rattle.chain.specs.declared.Chain.{Chain}
 use Rattle.chain.specs.Ways.{way, beyond, picked, moved_back}
-use Rattle.chain.specs.Chains.{keys_in, nexts_in, room, chained, Whole, Sound}
+use Rattle.chain.specs.Chains.{keys_in, nexts_in, room, chained, Whole}
 use Rattle.chain.proofs.Segments.{Runs, way-front, way_parts, way_step, way-take, leads-from-way, leads-within}
 use Rattle.chain.proofs.Moves.{apart-front}
-use Rattle.chain.proofs.Orders.{length-moved_back, occurrences-moved_back, take-moved_back, moved_back-one, take-exchanged, key_at-at}
-use Rattle.chain.proofs.Picked.{picked-append, length-picked, picked-taken_out, picked-exchanged, picked-set-other, one_set}
+use Rattle.chain.proofs.Orders.{length-moved_back, occurrences-moved_back, map-moved_back, front-moved_back, take-moved_back, key_at-at}
+use Rattle.chain.proofs.Picked.{picked-append, picked-take, length-picked, picked-moved_back, picked-set-other, one_set}
 use Rattle.chain.proofs.Cells.{length-nexts, length-keys, same-room, beyond-there}
 use Rattle.chain.proofs.Found.{read-key}
+
+-- the way is whole, and the keys of its first `count` cells differ
+pub record Sound {K V : Type 0} (equal : V → V → Bool) (value : K → V) (cells : List (Cell K)) (head count : ℕ) : Type 0 where
+  pub whole : Whole cells head
+  pub within : count ≤ room cells
+  pub counted : length (chained cells head count) ≡ count
+  pub differ : Different equal (map value (chained cells head count))
+
+-- as of each chain
+pub sound-chain : {K : Type 0} {kind : _} (chain : Chain K kind) → Sound kind.equal kind.value chain.cells.now chain.head chain.count
+sound-chain chain = record { whole = record { runs = chain.runs; apart = chain.apart }; within = chain.within; counted = chain.counted; differ = chain.differ }
 
 -- a way over the same cells in another order
 whole_from : {K : Type 0} (cells others : List (Cell K)) (head head' : ℕ) → room others ≡ room cells → length (way (nexts_in others) head' (room others)) ≡ length (way (nexts_in cells) head (room cells)) → ((v : ℕ) → occurrences eqb v (way (nexts_in others) head' (room others)) ≡ occurrences eqb v (way (nexts_in cells) head (room cells))) → Whole cells head → Whole others head'
@@ -27,18 +40,26 @@ picked-within cells head n h =
 length_run : {K : Type 0} (cells : List (Cell K)) (head n : ℕ) → Runs (nexts_in cells) head n → length (chained cells head n) ≡ n
 length_run cells head n h = length-picked (keys_in cells) (way (nexts_in cells) head n) (picked-within cells head n h) ∙ h
 
+-- the keys of a shorter way
+chained-front : {K : Type 0} (cells : List (Cell K)) (head m n : ℕ) → m ≤ n → Runs (nexts_in cells) head n → chained cells head m ≡ take m (chained cells head n)
+chained-front cells head m n l h = ap (picked (keys_in cells)) (way-take m n (nexts_in cells) head l) ∙ picked-take m (keys_in cells) (way (nexts_in cells) head n) (picked-within cells head n h)
+
+-- the front of a whole way
+pub runs-front : {K : Type 0} {cells : List (Cell K)} {head : ℕ} → Whole cells head → (n : ℕ) → n ≤ room cells → Runs (nexts_in cells) head n
+runs-front {cells = cells} {head = head} w n l = way-front n (room cells - n) (room cells) (nexts_in cells) head (omega arith) w.runs
+
 -- a whole way whose first keys differ
 sound-from : {K V : Type 0} (equal : V → V → Bool) (value : K → V) (cells : List (Cell K)) (head n : ℕ) → Whole cells head → n ≤ room cells → Different equal (map value (chained cells head n)) → Sound equal value cells head n
 sound-from equal value cells head n w l d = record {
   whole = w;
   within = l;
-  counted = length_run cells head n (way-front n (room cells - n) (room cells) (nexts_in cells) head (omega arith) w.runs);
+  counted = length_run cells head n (runs-front w n l);
   differ = d;
 }
 
 module _ {K V : Type 0} {equal : V → V → Bool} {value : K → V} {cells : List (Cell K)} {head count : ℕ} (s : Sound equal value cells head count) where
   pub runs_to : (n : ℕ) → n ≤ room cells → Runs (nexts_in cells) head n
-  runs_to n l = way-front n (room cells - n) (room cells) (nexts_in cells) head (omega arith) s.whole.runs
+  runs_to n l = runs-front s.whole n l
 
   pub key_at-chained : (m here : ℕ) (cell : Cell K) → m < count → here ≡ beyond (nexts_in cells) head m → cell ≡ get_or cells here cell → key_at (suc m) (chained cells head count) ≡ Ok cell.key
   key_at-chained m here cell l e read =
@@ -63,53 +84,70 @@ module _ {K V : Type 0} {equal : V → V → Bool} {value : K → V} {cells : Li
     whole-moved : Whole others head'
     whole-moved =
         let ws : List ℕ = way (nexts_in cells) head (room cells) in
-        whole_from cells others head head' (same-room cells others keys) (ap length ways ∙ length-moved_back p by ws) (λ v. ap (occurrences eqb v) ways ∙ occurrences-moved_back v p by ws) s.whole
+        whole_from cells others head head' (same-room cells others keys) (ap length ways ∙ length-moved_back p by ws) (λ v. ap (occurrences eqb v) ways ∙ occurrences-moved_back eqb v p by ws) s.whole
 
-    -- and is free now
-    module _ (m : ℕ) (inside : 1 ≤ p) (last : p + by ≡ suc m) (less : suc m ≡ count) where
-      pub chained-taken : chained others head' m ≡ taken_out p (chained cells head count)
-      chained-taken =
+    module _ (inside : p + by ≤ count) where
+      pub chained-moved : chained others head' count ≡ moved_back p by (chained cells head count)
+      chained-moved =
           let w : count ≤ room cells = s.within in
           let r : room others ≡ room cells = same-room cells others keys in
           let ws : List ℕ = way (nexts_in cells) head (room cells) in
-          let run : length ws ≡ room cells = s.whole.runs in
-          let front : way (nexts_in others) head' m ≡ taken_out p (way (nexts_in cells) head count) =
-          way-take m (room others) (nexts_in others) head' (omega arith) ∙ ap (take m) ways ∙ take-moved_back p by m ws inside last (omega arith)
-          ∙ ap (λ n. taken_out p (take n ws)) less ∙ ap (taken_out p) (sym (way-take count (room cells) (nexts_in cells) head w))
-          in
-          ap (λ ks. picked ks (way (nexts_in others) head' m)) keys ∙ ap (picked (keys_in cells)) front
-          ∙ picked-taken_out p (keys_in cells) (way (nexts_in cells) head count) (picked-within cells head count (runs_to count w))
-
-      pub sound-taken : Sound equal value others head' m
-      sound-taken =
-          let w : count ≤ room cells = s.within in
-          let r : room others ≡ room cells = same-room cells others keys in
-          sound-from equal value others head' m whole-moved (omega arith) (rw chained-taken (different-taken_out equal value p (chained cells head count) s.differ))
-
-    -- and was exchanged with the next
-    module _ (one : by ≡ 1) (inside : p < count) where
-      pub chained-exchanged : chained others head' count ≡ exchanged p (chained cells head count)
-      chained-exchanged =
-          let w : count ≤ room cells = s.within in
-          let r : room others ≡ room cells = same-room cells others keys in
-          let ws : List ℕ = way (nexts_in cells) head (room cells) in
-          let front : way (nexts_in others) head' count ≡ exchanged p (way (nexts_in cells) head count) =
-          way-take count (room others) (nexts_in others) head' (omega arith) ∙ ap (take count) ways ∙ ap (λ n. take count (moved_back p n ws)) one ∙ ap (take count) (moved_back-one p ws)
-          ∙ take-exchanged p count ws inside ∙ ap (exchanged p) (sym (way-take count (room cells) (nexts_in cells) head w))
+          let front : way (nexts_in others) head' count ≡ moved_back p by (way (nexts_in cells) head count) =
+          way-take count (room others) (nexts_in others) head' (omega arith) ∙ ap (take count) ways ∙ front-moved_back p by count ws inside
+          ∙ ap (moved_back p by) (sym (way-take count (room cells) (nexts_in cells) head w))
           in
           ap (λ ks. picked ks (way (nexts_in others) head' count)) keys ∙ ap (picked (keys_in cells)) front
-          ∙ picked-exchanged p (keys_in cells) (way (nexts_in cells) head count) (picked-within cells head count (runs_to count w))
+          ∙ picked-moved_back p by (keys_in cells) (way (nexts_in cells) head count) (picked-within cells head count (runs_to count w))
 
-      pub sound-exchanged : Sound equal value others head' count
-      sound-exchanged =
+      pub sound-moved : Sound equal value others head' count
+      sound-moved =
           let w : count ≤ room cells = s.within in
           let r : room others ≡ room cells = same-room cells others keys in
-          sound-from equal value others head' count whole-moved (omega arith) (rw chained-exchanged (different-exchanged equal value p (chained cells head count) s.differ))
+          sound-from equal value others head' count whole-moved (omega arith) (
+          λ v. rw (chained-moved, map-moved_back value p by (chained cells head count), occurrences-moved_back equal v p by (map value (chained cells head count))) (s.differ v)
+          )
+
+    -- and is the last one now, so that the others are the keys without it
+    module _ (m : ℕ) (low : 1 ≤ p) (last : p + by ≡ suc m) (less : suc m ≡ count) where
+      runs-others : (n : ℕ) → n ≤ count → Runs (nexts_in others) head' n
+      runs-others n l =
+          let w : count ≤ room cells = s.within in
+          let r : room others ≡ room cells = same-room cells others keys in
+          runs-front whole-moved n (omega arith)
+
+      pub counted-taken : length (chained others head' m) ≡ m
+      counted-taken = length_run others head' m (runs-others m (omega arith))
+
+      pub chained-taken : chained others head' m ≡ taken_out p (chained cells head count)
+      chained-taken =
+          let n : length (chained cells head count) ≡ count = s.counted in
+          chained-front others head' m count (omega arith) (runs-others count (omega arith)) ∙ ap (take m) (chained-moved (omega arith))
+          ∙ take-moved_back p by m (chained cells head count) low last (omega arith) ∙ ap (taken_out p) (take_all (suc m) (chained cells head count) (omega arith))
+
+      pub differ-taken : Different equal (map value (chained others head' m))
+      differ-taken = rw chained-taken (different-taken_out equal value p (chained cells head count) s.differ)
 
   -- a key was written into the first free cell
   module _ (others : List (Cell K)) (key : K) {free more : ℕ} (is-more : more ≡ suc count) (room-left : count < room cells) (is_free : free ≡ beyond (nexts_in cells) head count) (keys : keys_in others ≡ set (keys_in cells) free key) (nexts : nexts_in others ≡ nexts_in cells) where
     pub room-appended : room others ≡ room cells
     room-appended = ap (min 256) (sym (length-nexts others) ∙ ap length nexts ∙ length-nexts cells)
+
+    -- as the way goes on
+    way-on : way (nexts_in cells) head (room cells) ≡ way (nexts_in cells) head count ++ free ∷ way (nexts_in cells) (get_or (nexts_in cells) free 0) (room cells - suc count)
+    way-on =
+        let past : ℕ = room cells - suc count in
+        let there : free < length cells = beyond-there cells count (room cells) head free room-left s.whole.runs is_free in
+        let n : free < length (nexts_in cells) = omega (arith, length-nexts cells) in
+        way_parts count (suc past) (room cells) (nexts_in cells) head (omega arith) s.whole.runs ∙ ap (λ i. way (nexts_in cells) head count ++ way (nexts_in cells) i (suc past)) (sym is_free)
+        ∙ ap (λ vs. way (nexts_in cells) head count ++ vs) (way_step (nexts_in cells) free past n)
+
+    -- the keys stay
+    pub chained-kept : chained others head count ≡ chained cells head count
+    chained-kept =
+        let ws : List ℕ = way (nexts_in cells) head count in
+        let rest : List ℕ = way (nexts_in cells) (get_or (nexts_in cells) free 0) (room cells - suc count) in
+        ap (λ ns. picked (keys_in others) (way ns head count)) nexts ∙ ap (λ ks. picked ks ws) keys
+        ∙ picked-set-other (keys_in cells) free key ws (apart-front ws rest free (subst (Different eqb) way-on s.whole.apart))
 
     pub chained-appended : chained others head more ≡ chained cells head count ++ key ∷ []
     chained-appended =
@@ -117,26 +155,25 @@ module _ {K V : Type 0} {equal : V → V → Bool} {value : K → V} {cells : Li
         let there : free < length cells = beyond-there cells count (room cells) head free room-left s.whole.runs is_free in
         let n : free < length (nexts_in cells) = omega (arith, length-nexts cells) in
         let k : free < length (keys_in cells) = omega (arith, length-keys cells) in
-        let past : ℕ = room cells - suc count in
-        let rest : List ℕ = way (nexts_in cells) (get_or (nexts_in cells) free 0) past in
-        let all : way (nexts_in cells) head (room cells) ≡ ws ++ free ∷ rest =
-        way_parts count (suc past) (room cells) (nexts_in cells) head (omega arith) s.whole.runs ∙ ap (λ i. ws ++ way (nexts_in cells) i (suc past)) (sym is_free)
-        ∙ ap (λ vs. ws ++ vs) (way_step (nexts_in cells) free past n)
-        in
         let front : way (nexts_in cells) head (suc count) ≡ ws ++ free ∷ [] =
         way_parts count 1 (suc count) (nexts_in cells) head (omega arith) (runs_to (suc count) room-left) ∙ ap (λ i. ws ++ way (nexts_in cells) i 1) (sym is_free)
         ∙ ap (λ vs. ws ++ vs) (way_step (nexts_in cells) free 0 n)
         in
-        let absent : occurrences eqb free ws ≡ 0 = apart-front ws rest free (subst (Different eqb) all s.whole.apart) in
+        let rest : List ℕ = way (nexts_in cells) (get_or (nexts_in cells) free 0) (room cells - suc count) in
+        let absent : occurrences eqb free ws ≡ 0 = apart-front ws rest free (subst (Different eqb) way-on s.whole.apart) in
         ap (λ ns. picked (keys_in others) (way ns head more)) nexts ∙ ap (λ ks. picked ks (way (nexts_in cells) head more)) keys
         ∙ ap (λ i. picked (set (keys_in cells) free key) (way (nexts_in cells) head i)) is-more ∙ ap (picked (set (keys_in cells) free key)) front
         ∙ picked-append (set (keys_in cells) free key) ws (free ∷ [])
         ∙ ap (λ ks. ks ++ picked (set (keys_in cells) free key) (free ∷ [])) (picked-set-other (keys_in cells) free key ws absent)
         ∙ ap (λ ks. chained cells head count ++ (ks ++ [])) (one_set (keys_in cells) free key k)
 
-    pub sound-appended : ((v w : V) → Decides (equal v w) (v ≡ w)) → stands equal (value key) (map value (chained cells head count)) ≡ false → Sound equal value others head more
-    sound-appended decides h =
+    whole-kept : Whole others head
+    whole-kept =
         let e : way (nexts_in others) head (room others) ≡ way (nexts_in cells) head (room cells) = ap (λ ns. way ns head (room others)) nexts ∙ ap (way (nexts_in cells) head) room-appended in
-        sound-from equal value others head more (whole_from cells others head head room-appended (ap length e) (λ v. ap (occurrences eqb v) e) s.whole) (omega (arith, room-appended)) (
-        rw chained-appended (different-appended equal value decides (chained cells head count) key s.differ h)
-        )
+        whole_from cells others head head room-appended (ap length e) (λ v. ap (occurrences eqb v) e) s.whole
+
+    pub sound-kept : Sound equal value others head count
+    sound-kept = sound-from equal value others head count whole-kept (omega (arith, room-appended)) (rw chained-kept s.differ)
+
+    pub differ-appended : ((v w : V) → Decides (equal v w) (v ≡ w)) → stands equal (value key) (map value (chained cells head count)) ≡ false → Different equal (map value (chained others head more))
+    differ-appended decides h = rw chained-appended (different-appended equal value decides (chained cells head count) key s.differ h)

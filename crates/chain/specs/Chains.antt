@@ -1,5 +1,5 @@
 -- What a chain of cells means.
-use Rattle.std.specs.Prelude.{◌≡◌, ℕ, ◌≤◌, Bool, List, map, length, nat_eq}
+use Rattle.std.specs.Prelude.{◌≡◌, ℕ, List, map, length, nat_eq}
 use Rattle.lines.specs.Places.{Different, limit_for}
 use Rattle.chain.specs.declared.Cell.{Cell}
 use Rattle.chain.specs.Ways.{way, picked}
@@ -23,10 +23,3 @@ chained cells head count = picked (keys_in cells) (way (nexts_in cells) head cou
 pub record Whole {K : Type 0} (cells : List (Cell K)) (head : ℕ) : Type 0 where
   pub runs : length (way (nexts_in cells) head (room cells)) ≡ room cells
   pub apart : Different nat_eq (way (nexts_in cells) head (room cells))
-
--- the way is whole, `count` keys stand in its first cells (so many, as `counted` says again), and they differ
-pub record Sound {K V : Type 0} (equal : V → V → Bool) (value : K → V) (cells : List (Cell K)) (head count : ℕ) : Type 0 where
-  pub whole : Whole cells head
-  pub within : count ≤ room cells
-  pub counted : length (chained cells head count) ≡ count
-  pub differ : Different equal (map value (chained cells head count))

@@ -23,8 +23,8 @@ redirected nexts head zero to = (nexts, to)
 redirected nexts head (suc n) to = (slice_set nexts (beyond nexts head n) to, head)
 
 -- the entry at a place has passed the n entries behind it
-abbrev pub moved_back : ℕ → ℕ → List ℕ → List ℕ
-moved_back zero n ws = ws
+abbrev pub moved_back : {X : Type 0} → ℕ → ℕ → List X → List X
+moved_back zero n xs = xs
 moved_back (suc p) n [] = []
-moved_back (suc zero) n (w ∷ ws) = take n ws ++ w ∷ drop n ws
-moved_back (suc (suc p)) n (w ∷ ws) = w ∷ moved_back (suc p) n ws
+moved_back (suc zero) n (x ∷ xs) = take n xs ++ x ∷ drop n xs
+moved_back (suc (suc p)) n (x ∷ xs) = x ∷ moved_back (suc p) n xs

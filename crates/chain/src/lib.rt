@@ -1,12 +1,11 @@
 // Chains: lines of linked cells.
 #![tactic(auto)]
 
-ghost use Rattle.std.specs.Prelude.{◌≡◌, ℕ, ◌+◌, ◌-◌, ◌<◌, ◌≤◌, List, [], ◌∷◌, ◌++◌, map, length, None, Ok, slice_index, slice_set};
-ghost use Rattle.lines.specs.Orders.{key_at, taken_out, exchanged};
-ghost use Rattle.lines.specs.Places.{place_of};
+ghost use Rattle.std.specs.Prelude.{◌≡◌, ℕ, ◌+◌, ◌-◌, ◌<◌, ◌≤◌, [], ◌∷◌, ◌++◌, map, length, None, Ok, ◌==◌, nat_eq, slice_index, slice_set};
+ghost use Rattle.lines.specs.Orders.{key_at, is_place, taken_out, may_exchange};
+ghost use Rattle.lines.specs.Places.{place_of, Different};
 ghost use Rattle.chain.specs.Ways.{way, beyond, redirected, moved_back};
-ghost use Rattle.chain.specs.Chains.{keys_in, nexts_in, room, chained, Whole, Sound};
-ghost use Rattle.chain.specs.Laws.{keys-within, room-bounded};
+ghost use Rattle.chain.specs.Chains.{keys_in, nexts_in, room, chained, Whole};
 
 use keys::{Denial, Key};
 use lines::{Line, Orderly};
@@ -25,38 +24,29 @@ fn walk<K: Key>(cells: &[Cell<K>], from: usize, steps: usize) -> usize
 {
     let mut here = from;
     for _step in 0..steps {
-        let cell = cells[here];
-        here = cell.next;
+        here = cells[here].next;
     }
     here
 }
 
 // Lets the cell `at` point to `to`.
+#[tactic(auto, using(crate::proofs::Writes::writes))]
 fn point<K: Key>(cells: &mut [Cell<K>], at: usize, to: usize)
     requires { at < length cells.old }
     ensures keys { keys_in cells.new ≡ keys_in cells.old }
     ensures nexts { nexts_in cells.new ≡ slice_set (nexts_in cells.old) at to }
 {
-    let cell = cells[at];
-    let pointed = Cell {
-        key: cell.key,
-        next: to,
-    };
-    cells[at] = pointed;
+    cells[at].next = to;
 }
 
 // Writes a key into the cell `at`.
+#[tactic(auto, using(crate::proofs::Writes::writes))]
 fn put<K: Key>(cells: &mut [Cell<K>], at: usize, key: K)
     requires { at < length cells.old }
     ensures keys { keys_in cells.new ≡ slice_set (keys_in cells.old) at key }
     ensures nexts { nexts_in cells.new ≡ nexts_in cells.old }
 {
-    let cell = cells[at];
-    let filled = Cell {
-        key,
-        next: cell.next,
-    };
-    cells[at] = filled;
+    cells[at].key = key;
 }
 
 // Lets the way from `head` go on to `to` after some cells, and gives its head.
@@ -81,32 +71,21 @@ fn move_back<K: Key>(cells: &mut [Cell<K>], head: usize, place: usize, by: usize
     ensures way { way (nexts_in cells.new) result (room cells.new) ≡ moved_back place by (way (nexts_in cells.old) head (room cells.old)) }
 {
     let moved = walk(cells, head, place - 1);
-    let cell = cells[moved];
-    let after = cell.next;
+    let after = cells[moved].next;
     let behind = walk(cells, after, by);
     point(cells, moved, behind);
     let after = redirect(cells, after, by, moved);
     redirect(cells, head, place - 1, after)
 }
 
-// The key at a place of a chain.
-fn key_in<K: Key>(cells: &[Cell<K>], head: usize, count: usize, place: usize) -> K
-    requires sound { Sound K.Key.equal K.Key.value cells.now head count }
-    requires range { (1 ≤ place) × (place ≤ count) }
-    ensures { Ok result ≡ key_at place (chained cells.now head count) }
+// The place of a key among the first `steps` cells of the way from `from`.
+fn find<K: Key>(cells: &[Cell<K>], from: usize, steps: usize, key: &K) -> Option<usize>
+    requires whole { Whole cells.now from }
+    requires within { steps ≤ room cells.now }
+    ensures { result ≡ place_of K.Key.equal (K.Key.value key.now) (map K.Key.value (chained cells.now from steps)) }
 {
-    let here = walk(cells, head, place - 1);
-    let cell = cells[here];
-    cell.key
-}
-
-// The place of a key in a chain.
-fn find<K: Key>(cells: &[Cell<K>], head: usize, count: usize, key: &K) -> Option<usize>
-    requires { Sound K.Key.equal K.Key.value cells.now head count }
-    ensures { result ≡ place_of K.Key.equal (K.Key.value key.now) (map K.Key.value (chained cells.now head count)) }
-{
-    let mut here = head;
-    for passed in 0..count {
+    let mut here = from;
+    for passed in 0..steps {
         let cell = cells[here];
         if *key == cell.key {
             return Some(passed + 1);
@@ -116,52 +95,14 @@ fn find<K: Key>(cells: &[Cell<K>], head: usize, count: usize, key: &K) -> Option
     None
 }
 
-// Writes a key that is new to a chain into its first free cell.
-fn put_last<K: Key>(cells: &mut [Cell<K>], head: usize, count: usize, key: K)
-    requires sound { Sound K.Key.equal K.Key.value cells.old head count }
-    requires room { count < room cells.old }
-    requires new { place_of K.Key.equal (K.Key.value key) (map K.Key.value (chained cells.old head count)) ≡ None }
-    ensures sound { Sound K.Key.equal K.Key.value cells.new head (count + 1) }
-    ensures room { room cells.new ≡ room cells.old }
-    ensures keys { chained cells.new head (count + 1) ≡ chained cells.old head count ++ key ∷ [] }
-{
-    let free = walk(cells, head, count);
-    put(cells, free, key);
-}
-
-// Frees the cell at a place of a chain, which becomes the first free one, and gives the chain's head.
-fn unlink<K: Key>(cells: &mut [Cell<K>], head: usize, count: usize, place: usize) -> usize
-    requires sound { Sound K.Key.equal K.Key.value cells.old head count }
-    requires range { (1 ≤ place) × (place ≤ count) }
-    ensures sound { Sound K.Key.equal K.Key.value cells.new result (count - 1) }
-    ensures room { room cells.new ≡ room cells.old }
-    ensures keys { chained cells.new result (count - 1) ≡ taken_out place (chained cells.old head count) }
-{
-    if place == count {
-        return head;
-    }
-    move_back(cells, head, place, count - place)
-}
-
-// Links the cells at a place of a chain and at the next one the other way round, and gives the chain's head.
-fn turn<K: Key>(cells: &mut [Cell<K>], head: usize, count: usize, place: usize) -> usize
-    requires sound { Sound K.Key.equal K.Key.value cells.old head count }
-    requires range { (1 ≤ place) × (place < count) }
-    ensures sound { Sound K.Key.equal K.Key.value cells.new result count }
-    ensures room { room cells.new ≡ room cells.old }
-    ensures keys { chained cells.new result count ≡ exchanged place (chained cells.old head count) }
-{
-    move_back(cells, head, place, 1)
-}
-
-// Lets each of the first `count` cells point to the one that follows it.
-fn link<K: Key>(cells: &mut [Cell<K>], count: usize)
-    requires { count ≤ length cells.old }
+// Lets each cell point to the one that follows it.
+#[tactic(auto, using(crate::proofs::Writes::writes))]
+fn link<K: Key>(cells: &mut [Cell<K>])
     ensures keys { keys_in cells.new ≡ keys_in cells.old }
-    ensures nexts { (i : ℕ) → i < count → slice_index (nexts_in cells.new) i ≡ i + 1 }
+    ensures nexts { (i : ℕ) → i < length cells.old → slice_index (nexts_in cells.new) i ≡ i + 1 }
 {
-    for i in 0..count {
-        point(cells, i, i + 1);
+    for (at, cell) in cells.iter_mut().enumerate() {
+        cell.next = at + 1;
     }
 }
 
@@ -169,37 +110,105 @@ fn link<K: Key>(cells: &mut [Cell<K>], count: usize)
 fn used<K: Key>(cells: &[Cell<K>]) -> usize
     ensures { result ≡ room cells.now }
 {
-    let all = cells.len();
-    if all < 256 { all } else { 256 }
+    cells.len().min(256)
 }
 
-// A line of linked cells. One way runs from `head` through all cells that the chain uses: the keys' cells first, and then the free ones.
+// Whether a place is one of `count`.
+fn is_place(place: usize, count: usize) -> bool
+    ensures { result ≡ is_place place count }
+{
+    (1..=count).contains(&place)
+}
+
+// Whether a place is one of `count` with another behind it.
+fn has_next(place: usize, count: usize) -> bool
+    ensures { result ≡ may_exchange place count }
+{
+    (1..count).contains(&place)
+}
+
+// A line of linked cells. One way runs from `head` through all cells that the chain uses and meets none twice: first through the `count`
+// cells of the keys, which differ, and then through the free ones.
 #[derive(Drop)]
-pub struct Chain<'a, K> {
+pub struct Chain<'a, K: Key> {
     cells: &'a mut [Cell<K>],
     head: usize,
     count: usize,
+    ghost runs: { length (way (nexts_in cells.now) head (room cells.now)) ≡ room cells.now },
+    ghost apart: { Different nat_eq (way (nexts_in cells.now) head (room cells.now)) },
+    ghost within: { count ≤ room cells.now },
+    ghost counted: { length (chained cells.now head count) ≡ count },
+    ghost differ: { Different K.Key.equal (map K.Key.value (chained cells.now head count)) },
 }
 
 impl<'a, K: Key> Chain<'a, K> {
     // An empty chain over the cells, whatever they hold.
     pub fn new(cells: &'a mut [Cell<K>]) -> Chain<'a, K>
-        ensures sound { Sound K.Key.equal K.Key.value result.cells.now result.head result.count }
         ensures keys { chained result.cells.now result.head result.count ≡ [] }
         ensures limit { room result.cells.now ≡ room cells.old }
     {
         let limit = used(cells);
-        link(cells, limit);
+        link(&mut cells[..limit]);
         Chain {
             cells,
             head: 0,
             count: 0,
         }
     }
+
+    // The cell that follows the first `steps` ones.
+    fn cell_after(&self, steps: usize) -> usize
+        requires { steps < room self.now.cells.now }
+        ensures there { result < length self.now.cells.now }
+        ensures beyond { result ≡ beyond (nexts_in self.now.cells.now) self.now.head steps }
+    {
+        walk(self.cells, self.head, steps)
+    }
+
+    // Whether the chain takes no more keys.
+    fn is_full(&self) -> bool
+        ensures { result ≡ (self.now.count == room self.now.cells.now) }
+    {
+        self.count == used(self.cells)
+    }
+
+    // The key at one of the chain's places.
+    fn key(&self, place: usize) -> K
+        requires { (1 ≤ place) × (place ≤ self.now.count) }
+        ensures { Ok result ≡ key_at place (chained self.now.cells.now self.now.head self.now.count) }
+    {
+        self.cells[self.cell_after(place - 1)].key
+    }
+
+    // Writes a key that is new to the chain into its first free cell, which is not counted yet.
+    fn write_free(&mut self, key: K)
+        requires left { self.old.count < room self.old.cells.now }
+        requires new { place_of K.Key.equal (K.Key.value key) (map K.Key.value (chained self.old.cells.now self.old.head self.old.count)) ≡ None }
+        ensures room { room self.new.cells.now ≡ room self.old.cells.now }
+        ensures count { self.new.count ≡ self.old.count }
+        ensures keys { chained self.new.cells.now self.new.head (self.old.count + 1) ≡ chained self.old.cells.now self.old.head self.old.count ++ key ∷ [] }
+        ensures differ { Different K.Key.equal (map K.Key.value (chained self.new.cells.now self.new.head (self.old.count + 1))) }
+    {
+        let count = self.count;
+        let free = self.cell_after(count);
+        put(self.cells, free, key);
+    }
+
+    // Links the cell at a place in again behind the other keys' cells, where it is still counted.
+    fn move_last(&mut self, place: usize)
+        requires { (1 ≤ place) × (place ≤ self.old.count) }
+        ensures room { room self.new.cells.now ≡ room self.old.cells.now }
+        ensures count { self.new.count ≡ self.old.count }
+        ensures keys { chained self.new.cells.now self.new.head (self.old.count - 1) ≡ taken_out place (chained self.old.cells.now self.old.head self.old.count) }
+        ensures counted { length (chained self.new.cells.now self.new.head (self.old.count - 1)) ≡ self.old.count - 1 }
+        ensures differ { Different K.Key.equal (map K.Key.value (chained self.new.cells.now self.new.head (self.old.count - 1))) }
+    {
+        self.head = move_back(self.cells, self.head, place, self.count - place);
+    }
 }
 
 impl<'a, K: Key> Line<K> for Chain<'a, K> {
-    ghost sound = { λ s. Sound K.Key.equal K.Key.value s.cells.now s.head s.count };
+    ghost sound = { λ _. Unit {0} };
 
     ghost keys = { λ s. chained s.cells.now s.head s.count };
 
@@ -214,64 +223,53 @@ impl<'a, K: Key> Line<K> for Chain<'a, K> {
     }
 
     fn key_at(&self, place: usize) -> Result<K, Denial> {
-        let cells = &*self.cells;
-        let head = self.head;
-        let count = self.count;
-        if place < 1 || count < place {
+        if !is_place(place, self.count) {
             return Err(Denial::OutOfRange);
         }
-        Ok(key_in(cells, head, count, place))
+        Ok(self.key(place))
     }
 
     fn place_of(&self, key: &K) -> Option<usize> {
-        let cells = &*self.cells;
-        let head = self.head;
-        let count = self.count;
-        find(cells, head, count, key)
+        find(self.cells, self.head, self.count, key)
     }
 
     fn append(&mut self, key: K) -> Result<(), Denial> {
         if self.place_of(&key).is_some() {
             return Err(Denial::Present);
         }
-        let limit = self.limit();
-        let head = self.head;
-        let count = self.count;
-        if count == limit {
+        if self.is_full() {
             return Err(Denial::Full);
         }
-        put_last(self.cells, head, count, key);
-        self.count = count + 1;
+        self.write_free(key);
+        self.count += 1;
         Ok(())
     }
 
     fn take_out(&mut self, place: usize) -> Result<(), Denial> {
-        let head = self.head;
-        let count = self.count;
-        if place < 1 || count < place {
+        if !is_place(place, self.count) {
             return Err(Denial::OutOfRange);
         }
-        self.head = unlink(self.cells, head, count, place);
-        self.count = count - 1;
+        self.move_last(place);
+        self.count -= 1;
         Ok(())
     }
 
     fn exchange(&mut self, place: usize) -> Result<(), Denial> {
-        let head = self.head;
-        let count = self.count;
-        if place < 1 || count <= place {
+        if !has_next(place, self.count) {
             return Err(Denial::OutOfRange);
         }
-        self.head = turn(self.cells, head, count, place);
+        self.head = move_back(self.cells, self.head, place, 1);
         Ok(())
     }
 }
 
 // The laws of a line hold of chains.
 impl<'a, K: Key> Orderly<K> for Chain<'a, K> {
-    ghost different = { λ s sound. sound.differ };
+    ghost use Rattle.chain.specs.Laws.{keys-within, room-bounded};
 
-    ghost within = { λ s sound. keys-within sound };
+    ghost different = { λ s _. s.differ };
 
-    ghost bounded = { λ s sound. room-bounded s.cells.now };
+    ghost within = { λ s _. keys-within s };
+
+    ghost bounded = { λ s _. room-bounded s.cells.now };
 }

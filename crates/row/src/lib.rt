@@ -1,26 +1,27 @@
 // A row: a line that keeps its keys in order in cells that its user provides.
 #![tactic(auto)]
 
-ghost use Rattle.std.specs.Prelude.{◌≡◌, ◌+◌, ◌<◌, ◌≤◌, [], ◌∷◌, ◌++◌, map, length, take, ◌==◌};
-ghost use Rattle.lines.specs.Orders.{key_at, is_place, taken_out, may_exchange, exchanged};
-ghost use Rattle.lines.specs.Places.{place_of};
-ghost use Rattle.row.specs.Rows.{row_keys, limit_over, row_limit, RowSound};
-ghost use Rattle.row.specs.Laws.{keys-within, limit-bounded};
+ghost use Rattle.std.specs.Prelude.{◌≡◌, ◌-◌, ◌≤◌, [], map, length, take, ◌==◌};
+ghost use Rattle.lines.specs.Orders.{key_at, is_place, taken_out, may_exchange};
+ghost use Rattle.lines.specs.Places.{place_of, Different, limit_for};
 
 use keys::{Denial, Key};
 use lines::{Line, Orderly};
 
-// The first `count` cells hold the keys; what the others hold means nothing.
+// The first `count` cells hold the keys, which differ; what the other cells hold means nothing.
 #[derive(Drop)]
-pub struct Row<'a, K> {
+pub struct Row<'a, K: Key> {
     cells: &'a mut [K],
     count: usize,
+    ghost within: { count ≤ limit_for (length cells.now) },
+    ghost differ: { Different K.Key.equal (map K.Key.value (take count cells.now)) },
 }
 
 impl<'a, K: Key> Row<'a, K> {
+    ghost use Rattle.row.specs.Rows.{row_keys, limit_over, row_limit};
+
     // An empty row over the cells, whatever they hold.
     pub fn new(cells: &'a mut [K]) -> Row<'a, K>
-        ensures sound { RowSound K.Key.equal K.Key.value result }
         ensures keys { row_keys result ≡ [] }
         ensures limit { row_limit result ≡ limit_over cells.old }
     {
@@ -29,17 +30,13 @@ impl<'a, K: Key> Row<'a, K> {
 
     // The cells that hold the keys.
     fn keys(&self) -> &[K]
-        requires { self.now.count ≤ row_limit self.now }
         ensures { result.now ≡ row_keys self.now }
     {
-        let cells = &*self.cells;
-        let count = self.count;
-        &cells[..count]
+        &self.cells[..self.count]
     }
 
     // Whether the row takes no more keys.
     fn is_full(&self) -> bool
-        requires { RowSound K.Key.equal K.Key.value self.now }
         ensures { result ≡ (self.now.count == row_limit self.now) }
     {
         self.count == self.limit()
@@ -50,74 +47,47 @@ impl<'a, K: Key> Row<'a, K> {
 fn is_place(place: usize, count: usize) -> bool
     ensures { result ≡ is_place place count }
 {
-    1 <= place && place <= count
+    (1..=count).contains(&place)
 }
 
 // Whether a place is one of `count` with another behind it.
 fn has_next(place: usize, count: usize) -> bool
     ensures { result ≡ may_exchange place count }
 {
-    1 <= place && place < count
+    (1..count).contains(&place)
 }
 
 // The key at a place among keys.
+#[tactic(auto, using(crate::proofs::Cells::got_key))]
 fn pick<K: Key>(keys: &[K], place: usize) -> Result<K, Denial>
     ensures { result ≡ key_at place keys.now }
 {
-    if !is_place(place, keys.len()) {
-        return Err(Denial::OutOfRange);
-    }
-    Ok(keys[place - 1])
+    let at = place.checked_sub(1).ok_or(Denial::OutOfRange)?;
+    keys.get(at).copied().ok_or(Denial::OutOfRange)
 }
 
 // Where a key stands among keys.
 fn search<K: Key>(keys: &[K], key: &K) -> Option<usize>
     ensures { result ≡ place_of K.Key.equal (K.Key.value key.now) (map K.Key.value keys.now) }
 {
-    for (at, other) in keys.iter().enumerate() {
-        if key == other {
-            return Some(at + 1);
-        }
-    }
-    None
+    let at = keys.iter().position(|other| key.same(other))?;
+    Some(at + 1)
 }
 
-// Copies the key behind a place into its cell: without the next cell, the keys are as they were without this one.
-fn move_up<K: Key>(cells: &mut [K], place: usize)
-    requires { (1 ≤ place) × (place < length cells.old) }
-    ensures { taken_out (place + 1) cells.new ≡ taken_out place cells.old }
-{
-    cells[place - 1] = cells[place];
-}
-
-// Moves each key behind a place up by one, as far as `count`, whose cell is then free.
+// Moves each of the first `count` keys that stands behind a place up by one, and the key at that place behind them.
+#[tactic(auto, using(crate::proofs::Cells::rotated))]
 fn close_up<K: Key>(cells: &mut [K], place: usize, count: usize)
     requires { (1 ≤ place) × ((place ≤ count) × (count ≤ length cells.old)) }
-    ensures { taken_out count cells.new ≡ taken_out place cells.old }
+    ensures keys { take (count - 1) cells.new ≡ taken_out place (take count cells.old) }
+    ensures len { length cells.new ≡ length cells.old }
 {
-    for at in place..count {
-        move_up(cells, at);
-    }
-}
-
-// Puts a key behind the first `count`.
-fn put_next<K: Key>(cells: &mut [K], count: usize, key: K)
-    requires { count < length cells.old }
-    ensures { take (count + 1) cells.new ≡ take count cells.old ++ key ∷ [] }
-{
-    cells[count] = key;
-}
-
-// Lets the keys at a place and at the next one change places.
-fn swap_next<K: Key>(cells: &mut [K], place: usize)
-    requires { (1 ≤ place) × (place < length cells.old) }
-    ensures { cells.new ≡ exchanged place cells.old }
-{
-    cells.swap(place - 1, place);
+    cells[place - 1..count].rotate_left(1);
 }
 
 impl<'a, K: Key> Line<K> for Row<'a, K> {
-    ghost sound = { RowSound K.Key.equal K.Key.value };
+    ghost use Rattle.row.specs.Rows.{row_keys, row_limit};
+
+    ghost sound = { λ _. Unit {0} };
 
     ghost keys = { row_keys };
 
@@ -128,8 +98,7 @@ impl<'a, K: Key> Line<K> for Row<'a, K> {
     }
 
     fn limit(&self) -> usize {
-        let cells = &*self.cells;
-        cells.len().min(256)
+        self.cells.len().min(256)
     }
 
     fn key_at(&self, place: usize) -> Result<K, Denial> {
@@ -147,19 +116,17 @@ impl<'a, K: Key> Line<K> for Row<'a, K> {
         if self.is_full() {
             return Err(Denial::Full);
         }
-        let count = self.count;
-        put_next(self.cells, count, key);
-        self.count = count + 1;
+        self.cells[self.count] = key;
+        self.count += 1;
         Ok(())
     }
 
     fn take_out(&mut self, place: usize) -> Result<(), Denial> {
-        let count = self.count;
-        if !is_place(place, count) {
+        if !is_place(place, self.count) {
             return Err(Denial::OutOfRange);
         }
-        close_up(self.cells, place, count);
-        self.count = count - 1;
+        close_up(self.cells, place, self.count);
+        self.count -= 1;
         Ok(())
     }
 
@@ -167,16 +134,18 @@ impl<'a, K: Key> Line<K> for Row<'a, K> {
         if !has_next(place, self.count) {
             return Err(Denial::OutOfRange);
         }
-        swap_next(self.cells, place);
+        self.cells.swap(place - 1, place);
         Ok(())
     }
 }
 
 // The laws of a line hold of rows.
 impl<'a, K: Key> Orderly<K> for Row<'a, K> {
-    ghost different = { λ s sound. sound.1 };
+    ghost use Rattle.row.specs.Laws.{keys-within, limit-bounded};
 
-    ghost within = { λ s sound. keys-within s sound.0 };
+    ghost different = { λ s _. s.differ };
 
-    ghost bounded = { λ s sound. limit-bounded s };
+    ghost within = { λ s _. keys-within s };
+
+    ghost bounded = { λ s _. limit-bounded s };
 }

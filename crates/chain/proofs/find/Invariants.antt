@@ -8,6 +8,6 @@ use Rattle.chain.proofs.find.Given as goal
 abbrev pub invariant-loop-passed : goal.invariant-loop-passed
 invariant-loop-passed g l =
     let key = g.K.Key in
-    let left = l.count - l.passed in
+    let left = l.steps - l.passed in
     Runs (nexts_in l.cells) l.here left
-    × Passed key.equal (key.value l.key) (map key.value (chained l.cells l.head l.count)) (map key.value (chained l.cells l.here left)) l.passed
+    × Passed key.equal (key.value l.key) (map key.value (chained l.cells l.from l.steps)) (map key.value (chained l.cells l.here left)) l.passed

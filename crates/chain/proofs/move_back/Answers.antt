@@ -1,7 +1,7 @@
 use Rattle.std.proofs.Common.{◌≡◌, ◌<◌, length, ◌∙◌, rules}
 use Rattle.chain.specs.Chains.{keys_in}
 use Rattle.chain.proofs.Back.{runs-before, runs-passed, moved-there, passed-run, before-run, way-moved}
-use Rattle.chain.proofs.Cells.{read_next}
+use Rattle.chain.proofs.Cells.{next-at}
 use Rattle.chain.proofs.move_back.Goals as goal
 
 pub walk-moved-requires : goal.walk-moved-requires
@@ -16,10 +16,13 @@ offset_bounds-cells-moved g c = let l : c.walk-moved.result < length c.args.cell
 pub bounds-cells-moved : goal.bounds-cells-moved
 bounds-cells-moved = inside
 
+pub bounds-cells-moved-2 : goal.bounds-cells-moved-2
+bounds-cells-moved-2 g c = moved-there c.args.place c.args.by c.requires.whole c.requires.range c.walk-moved.ensures
+
 pub walk-behind-requires : goal.walk-behind-requires
 walk-behind-requires g c =
     let there = moved-there c.args.place c.args.by c.requires.whole c.requires.range c.walk-moved.ensures in
-    let after = read_next c.args.cells.now c.walk-moved.result c.index-cells-moved.result c.index-cells-moved.is there in
+    let after = next-at c.args.cells.now c.walk-moved.result c.index-cells-moved.result there in
     runs-passed c.args.place c.args.by c.requires.whole c.requires.range c.walk-moved.ensures after
 
 pub point-requires : goal.point-requires
@@ -28,19 +31,19 @@ point-requires g c = moved-there c.args.place c.args.by c.requires.whole c.requi
 pub redirect-after-requires : goal.redirect-after-requires
 redirect-after-requires g c =
     let there = moved-there c.args.place c.args.by c.requires.whole c.requires.range c.walk-moved.ensures in
-    let after = read_next c.args.cells.now c.walk-moved.result c.index-cells-moved.result c.index-cells-moved.is there in
+    let after = next-at c.args.cells.now c.walk-moved.result c.index-cells-moved.result there in
     passed-run c.args.place c.args.by c.requires.whole c.requires.range c.walk-moved.ensures after c.walk-behind.ensures c.point.ensures.nexts
 
 pub redirect-requires : goal.redirect-requires
 redirect-requires g c =
     let there = moved-there c.args.place c.args.by c.requires.whole c.requires.range c.walk-moved.ensures in
-    let after = read_next c.args.cells.now c.walk-moved.result c.index-cells-moved.result c.index-cells-moved.is there in
+    let after = next-at c.args.cells.now c.walk-moved.result c.index-cells-moved.result there in
     before-run c.args.place c.args.by c.requires.whole c.requires.range c.walk-moved.ensures after c.walk-behind.ensures c.point.ensures.nexts c.redirect-after.ensures.nexts
 
 pub returns : goal.returns
 returns g c =
     let there = moved-there c.args.place c.args.by c.requires.whole c.requires.range c.walk-moved.ensures in
-    let after = read_next c.args.cells.now c.walk-moved.result c.index-cells-moved.result c.index-cells-moved.is there in
+    let after = next-at c.args.cells.now c.walk-moved.result c.index-cells-moved.result there in
     let keys : keys_in c.redirect.new.cells ≡ keys_in c.args.cells.now = c.redirect.ensures.keys ∙ c.redirect-after.ensures.keys ∙ c.point.ensures.keys in
     record {
       keys = keys;

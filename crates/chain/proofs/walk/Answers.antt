@@ -1,5 +1,5 @@
 use Rattle.std.proofs.Common.{◌≡◌, ◌+◌, ◌-◌, ◌<◌, length, arith}
-use Rattle.chain.proofs.Cells.{walk-there, walk-on}
+use Rattle.chain.proofs.Cells.{walk-there, walk-on, next-at}
 use Rattle.chain.proofs.walk.Goals as goal
 
 inside : goal.bounds-cells-here
@@ -11,8 +11,13 @@ offset_bounds-cells-here g c = let l : c.loop-step.here < length c.args.cells.no
 pub bounds-cells-here : goal.bounds-cells-here
 bounds-cells-here = inside
 
+pub bounds-cells-here-in-loop-step : goal.bounds-cells-here-in-loop-step
+bounds-cells-here-in-loop-step g c = walk-there c.args.cells.now c.loop-step.here (c.args.steps - c.loop-step._step) (c.args.steps - (c.loop-step._step + 1)) (omega arith) c.loop-step.invariant.0
+
 pub loop-step-preserved : goal.loop-step-preserved
-loop-step-preserved g c = walk-on c.args.cells.now c.loop-step.here (c.args.steps - c.loop-step._step) (c.args.steps - (c.loop-step._step + 1)) _ c.index-cells-here.result (omega arith) c.index-cells-here.is c.loop-step.invariant
+loop-step-preserved g c =
+    let there = walk-there c.args.cells.now c.loop-step.here (c.args.steps - c.loop-step._step) (c.args.steps - (c.loop-step._step + 1)) (omega arith) c.loop-step.invariant.0 in
+    walk-on c.args.cells.now c.loop-step.here (c.args.steps - c.loop-step._step) (c.args.steps - (c.loop-step._step + 1)) _ _ (omega arith) (next-at c.args.cells.now c.loop-step.here c.index-cells-here.result there) c.loop-step.invariant
 
 pub returns : goal.returns
 returns g c = let e : c.args.steps - c.loop-step._step ≡ 0 = omega arith in rw e at c.loop-step.invariant.1

@@ -1,18 +1,22 @@
-use Rattle.std.proofs.Common.{sym, ◌∙◌, arith}
-use Rattle.lines.proofs.Found.{missed_more, found_at, found_nowhere}
+use Rattle.std.proofs.Common.{Some, None, sym, ◌∙◌, rules}
+use Rattle.std.proofs.lemmas.Iterator.{YieldsList-from_slice}
+use Rattle.std.proofs.lemmas.Iterator.Search.{position_from_yields_List}
+use Rattle.std.proofs.lemmas.Iterator.Adapters.{position_from-zero}
+use Rattle.row.proofs.Cells.{place-from_position}
 use Rattle.row.proofs.search.Goals as goal
 
-pub returns-then-eq : goal.returns-then-eq
-returns-then-eq g c =
-    sym (found_at g.K.Key.equal g.K.Key.value (g.K.Key.value c.args.key.now) c.loop-at.at c.args.keys.now
-    c.index-keys-at.result (omega arith) c.index-keys-at.is c.loop-at.invariant (sym (g.met.K.Key.alike c.args.key.now c.index-keys-at.result) ∙ sym c.eq.ensures ∙ c.if-eq.true))
-
-pub loop-at-preserved : goal.loop-at-preserved
-loop-at-preserved g c =
-    missed_more g.K.Key.equal g.K.Key.value (g.K.Key.value c.args.key.now) c.loop-at.at c.args.keys.now
-    c.index-keys-at.result (omega arith) c.index-keys-at.is c.loop-at.invariant (sym (g.met.K.Key.alike c.args.key.now c.index-keys-at.result) ∙ sym c.eq.ensures ∙ c.if-eq.false)
+pub returns-in_err-at : goal.returns-in_err-at
+returns-in_err-at g c =
+    let key = g.K.Key in
+    let v = key.value c.args.key.now in
+    let found = position_from_yields_List (λ k. key.equal v (key.value k)) _ _ _ c.position.ensures.ran (YieldsList-from_slice c.args.keys.now c.iter.ensures.rest) (λ x b q k. search rules)
+    ∙ position_from-zero (λ k. key.equal v (key.value k)) c.args.keys.now in
+    c.from_residual.ensures ∙ place-from_position key.equal key.value v c.args.keys.now None (sym found ∙ c.in_err-at.was)
 
 pub returns : goal.returns
 returns g c =
-    sym (found_nowhere g.K.Key.equal g.K.Key.value (g.K.Key.value c.args.key.now) c.loop-at.at c.args.keys.now
-    (omega arith) c.loop-at.invariant)
+    let key = g.K.Key in
+    let v = key.value c.args.key.now in
+    let found = position_from_yields_List (λ k. key.equal v (key.value k)) _ _ _ c.position.ensures.ran (YieldsList-from_slice c.args.keys.now c.iter.ensures.rest) (λ x b q k. search rules)
+    ∙ position_from-zero (λ k. key.equal v (key.value k)) c.args.keys.now in
+    place-from_position key.equal key.value v c.args.keys.now (Some c.in_ok-at.at) (sym found ∙ c.in_ok-at.was)

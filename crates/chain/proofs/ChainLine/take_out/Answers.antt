@@ -1,17 +1,11 @@
-use Rattle.std.proofs.Common.{◌≡◌, length, sym, refl, arith}
+use Rattle.std.proofs.Common.{sym, arith}
 use Rattle.std.proofs.lemmas.Bool.Decides.{nat_tests}
 use Rattle.chain.specs.Chains.{chained}
 use Rattle.lines.proofs.Reach.{taken_out-outside}
 use Rattle.chain.proofs.ChainLine.take_out.Goals as goal
 
-pub returns-then-place-lt1 : goal.returns-then-place-lt1
-returns-then-place-lt1 g c =
-    let line = c.args.self.now in
-    let h = c.then-place-lt1.either in
-    let n : length (chained line.cells.now line.head line.count) ≡ line.count = c.requires.counted in
-    record {
-      sound = c.requires;
-      limit = refl;
-      gives = grind (arith, nat_tests);
-      keys = sym (taken_out-outside c.args.place (chained line.cells.now line.head line.count) (λ a b. omega arith));
-    }
+pub returns-then-not-is_place-clause-keys : goal.returns-then-not-is_place-clause-keys
+returns-then-not-is_place-clause-keys g c =
+    let chain = c.args.self.now in
+    let n = chain.counted in
+    sym (taken_out-outside c.args.place (chained chain.cells.now chain.head chain.count) (λ a b. grind (arith, nat_tests)))
