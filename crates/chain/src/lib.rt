@@ -2,13 +2,13 @@
 #![tactic(auto)]
 
 ghost use Rattle.std.specs.Prelude.{◌≡◌, ℕ, ◌+◌, ◌-◌, ◌<◌, ◌≤◌, [], ◌∷◌, ◌++◌, map, length, None, Ok, ◌==◌, nat_eq, slice_index, slice_set};
-ghost use Rattle.lines.specs.Orders.{key_at, is_place, taken_out, may_exchange};
+ghost use Rattle.lines.specs.Orders.{key_at, taken_out};
 ghost use Rattle.lines.specs.Places.{place_of, Different};
 ghost use Rattle.chain.specs.Ways.{way, beyond, redirected, moved_back};
 ghost use Rattle.chain.specs.Chains.{keys_in, nexts_in, room, chained, Whole};
 
 use keys::{Denial, Key};
-use lines::{Line, Orderly};
+use lines::{Line, Orderly, is_place, may_exchange};
 
 // A cell has a key and the number of the next cell.
 #[derive(Clone, Copy)]
@@ -113,20 +113,6 @@ fn used<K: Key>(cells: &[Cell<K>]) -> usize
     cells.len().min(256)
 }
 
-// Whether a place is one of `count`.
-fn is_place(place: usize, count: usize) -> bool
-    ensures { result ≡ is_place place count }
-{
-    (1..=count).contains(&place)
-}
-
-// Whether a place is one of `count` with another behind it.
-fn has_next(place: usize, count: usize) -> bool
-    ensures { result ≡ may_exchange place count }
-{
-    (1..count).contains(&place)
-}
-
 // A line of linked cells. One way runs from `head` through all cells that the chain uses and meets none twice: first through the `count`
 // cells of the keys, which differ, and then through the free ones.
 #[derive(Drop)]
@@ -208,8 +194,6 @@ impl<'a, K: Key> Chain<'a, K> {
 }
 
 impl<'a, K: Key> Line<K> for Chain<'a, K> {
-    ghost sound = { λ _. Unit {0} };
-
     ghost keys = { λ s. chained s.cells.now s.head s.count };
 
     ghost limit = { λ s. room s.cells.now };
@@ -255,7 +239,7 @@ impl<'a, K: Key> Line<K> for Chain<'a, K> {
     }
 
     fn exchange(&mut self, place: usize) -> Result<(), Denial> {
-        if !has_next(place, self.count) {
+        if !may_exchange(place, self.count) {
             return Err(Denial::OutOfRange);
         }
         self.head = move_back(self.cells, self.head, place, 1);
@@ -267,9 +251,9 @@ impl<'a, K: Key> Line<K> for Chain<'a, K> {
 impl<'a, K: Key> Orderly<K> for Chain<'a, K> {
     ghost use Rattle.chain.specs.Laws.{keys-within, room-bounded};
 
-    ghost different = { λ s _. s.differ };
+    ghost different = { λ s. s.differ };
 
-    ghost within = { λ s _. keys-within s };
+    ghost within = { λ s. keys-within s };
 
-    ghost bounded = { λ s _. room-bounded s.cells.now };
+    ghost bounded = { λ s. room-bounded s.cells.now };
 }

@@ -2,11 +2,11 @@
 #![tactic(auto)]
 
 ghost use Rattle.std.specs.Prelude.{◌≡◌, ◌-◌, ◌≤◌, [], map, length, take, ◌==◌};
-ghost use Rattle.lines.specs.Orders.{key_at, is_place, taken_out, may_exchange};
+ghost use Rattle.lines.specs.Orders.{key_at, taken_out};
 ghost use Rattle.lines.specs.Places.{place_of, Different, limit_for};
 
 use keys::{Denial, Key};
-use lines::{Line, Orderly};
+use lines::{Line, Orderly, is_place, may_exchange};
 
 // The first `count` cells hold the keys, which differ; what the other cells hold means nothing.
 #[derive(Drop)]
@@ -43,20 +43,6 @@ impl<'a, K: Key> Row<'a, K> {
     }
 }
 
-// Whether a place is one of `count`.
-fn is_place(place: usize, count: usize) -> bool
-    ensures { result ≡ is_place place count }
-{
-    (1..=count).contains(&place)
-}
-
-// Whether a place is one of `count` with another behind it.
-fn has_next(place: usize, count: usize) -> bool
-    ensures { result ≡ may_exchange place count }
-{
-    (1..count).contains(&place)
-}
-
 // The key at a place among keys.
 #[tactic(auto, using(crate::proofs::Cells::got_key))]
 fn pick<K: Key>(keys: &[K], place: usize) -> Result<K, Denial>
@@ -70,7 +56,7 @@ fn pick<K: Key>(keys: &[K], place: usize) -> Result<K, Denial>
 fn search<K: Key>(keys: &[K], key: &K) -> Option<usize>
     ensures { result ≡ place_of K.Key.equal (K.Key.value key.now) (map K.Key.value keys.now) }
 {
-    let at = keys.iter().position(|other| key.same(other))?;
+    let at = keys.iter().position(|other| key == other)?;
     Some(at + 1)
 }
 
@@ -86,8 +72,6 @@ fn close_up<K: Key>(cells: &mut [K], place: usize, count: usize)
 
 impl<'a, K: Key> Line<K> for Row<'a, K> {
     ghost use Rattle.row.specs.Rows.{row_keys, row_limit};
-
-    ghost sound = { λ _. Unit {0} };
 
     ghost keys = { row_keys };
 
@@ -131,7 +115,7 @@ impl<'a, K: Key> Line<K> for Row<'a, K> {
     }
 
     fn exchange(&mut self, place: usize) -> Result<(), Denial> {
-        if !has_next(place, self.count) {
+        if !may_exchange(place, self.count) {
             return Err(Denial::OutOfRange);
         }
         self.cells.swap(place - 1, place);
@@ -143,9 +127,9 @@ impl<'a, K: Key> Line<K> for Row<'a, K> {
 impl<'a, K: Key> Orderly<K> for Row<'a, K> {
     ghost use Rattle.row.specs.Laws.{keys-within, limit-bounded};
 
-    ghost different = { λ s _. s.differ };
+    ghost different = { λ s. s.differ };
 
-    ghost within = { λ s _. keys-within s };
+    ghost within = { λ s. keys-within s };
 
-    ghost bounded = { λ s _. limit-bounded s };
+    ghost bounded = { λ s. limit-bounded s };
 }

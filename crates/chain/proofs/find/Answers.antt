@@ -19,19 +19,19 @@ offset_bounds-cells-here g c = let l : c.loop-passed.here < length c.args.cells.
 pub bounds-cells-here : goal.bounds-cells-here
 bounds-cells-here = inside
 
-pub returns-then-same : goal.returns-then-same
-returns-then-same g c =
+pub returns-then-eq : goal.returns-then-eq
+returns-then-eq g c =
     let key = g.K.Key in
     let cells = c.args.cells.now in
     found_here key.equal key.value (key.value c.args.key.now) (map key.value (chained cells c.args.from c.args.steps)) cells c.loop-passed.here (c.args.steps - c.loop-passed.passed) (c.args.steps - (c.loop-passed.passed + 1)) c.loop-passed.passed
-    c.index-cells-here.result (omega arith) c.index-cells-here.is c.loop-passed.invariant (sym c.same.ensures ∙ c.if-same.true)
+    c.index-cells-here.result (omega arith) c.index-cells-here.is c.loop-passed.invariant (sym (g.met.K.Key.alike c.args.key.now c.index-cells-here.result.key) ∙ sym c.eq.ensures ∙ c.if-eq.true)
 
 pub loop-passed-preserved : goal.loop-passed-preserved
 loop-passed-preserved g c =
     let key = g.K.Key in
     let cells = c.args.cells.now in
     passed_here key.equal key.value (key.value c.args.key.now) (map key.value (chained cells c.args.from c.args.steps)) cells c.loop-passed.here (c.args.steps - c.loop-passed.passed) (c.args.steps - (c.loop-passed.passed + 1)) c.loop-passed.passed
-    c.index-cells-here.result (omega arith) c.index-cells-here.is c.loop-passed.invariant (sym c.same.ensures ∙ c.if-same.false)
+    c.index-cells-here.result (omega arith) c.index-cells-here.is c.loop-passed.invariant (sym (g.met.K.Key.alike c.args.key.now c.index-cells-here.result.key) ∙ sym c.eq.ensures ∙ c.if-eq.false)
 
 pub returns : goal.returns
 returns g c =
