@@ -17,7 +17,6 @@ pub(crate) struct Places {
 
 // How many keys stand in a line.
 fn count_of<K: Key, L: Orderly<K>>(line: &L) -> usize
-    requires { L.Line.sound line.now }
     ensures value { result ≡ length (map K.Key.value (L.Line.keys line.now)) }
     ensures bound { result ≤ 256 }
 {
@@ -26,7 +25,6 @@ fn count_of<K: Key, L: Orderly<K>>(line: &L) -> usize
 
 // Whether no key stands in either line.
 pub(crate) fn both_empty<K: Key, H: Orderly<K>, R: Orderly<K>>(house: &H, rival: &R) -> bool
-    requires { (H.Line.sound house.now) × (R.Line.sound rival.now) }
     ensures { result ≡ both_empty (H.Line.keys house.now) (R.Line.keys rival.now) }
 {
     house.count() == 0 && rival.count() == 0
@@ -38,7 +36,6 @@ fn find<K: Key, H: Orderly<K>, R: Orderly<K>>(
     rival: &R,
     key: &K,
 ) -> Result<Option<Places>, Denial>
-    requires { (H.Line.sound house.now) × (R.Line.sound rival.now) }
     ensures { result ≡ found K.Key H.Line R.Line key.now house.now rival.now }
 {
     let house_count = count_of(house);
@@ -58,7 +55,7 @@ fn find<K: Key, H: Orderly<K>, R: Orderly<K>>(
 fn is_outside(goal: usize, place: usize) -> bool
     ensures { result ≡ outside goal place }
 {
-    goal < 1 || place < goal
+    !(1..=place).contains(&goal)
 }
 
 // The checks of a removal: the counter, then that the key stands on both sides.
@@ -68,7 +65,6 @@ pub(crate) fn admit_remove<K: Key, H: Orderly<K>, R: Orderly<K>>(
     rival: &R,
     key: &K,
 ) -> Result<Places, Denial>
-    requires { (H.Line.sound house.now) × (R.Line.sound rival.now) }
     ensures { result ≡ admitted (failed K.Key H.Line R.Line (remove (K.Key.value key.now)) house.now rival.now ledger) (places_of K.Key H.Line R.Line key.now house.now rival.now) }
 {
     if ledger.requests == COUNTER_LIMIT {
@@ -88,7 +84,6 @@ pub(crate) fn admit_lookup<K: Key, H: Orderly<K>, R: Orderly<K>>(
     key: &K,
     goal: usize,
 ) -> Result<Places, Denial>
-    requires { (H.Line.sound house.now) × (R.Line.sound rival.now) }
     ensures { result ≡ admitted (failed K.Key H.Line R.Line (lookup (K.Key.value key.now) goal) house.now rival.now ledger) (places_of K.Key H.Line R.Line key.now house.now rival.now) }
 {
     let places = admit_remove(ledger, house, rival, key)?;
@@ -104,10 +99,9 @@ pub(crate) fn admit_load<K: Key, H: Orderly<K>, R: Orderly<K>>(
     rival: &R,
     key: &K,
 ) -> Result<Places, Denial>
-    requires { (H.Line.sound house.now) × (R.Line.sound rival.now) }
     ensures { result ≡ admitted (load_failed K.Key H.Line R.Line key.now house.now rival.now) (next_places K.Key H.Line R.Line house.now rival.now) }
 {
-    if let Some(_) = find(house, rival, key)? {
+    if find(house, rival, key)?.is_some() {
         return Err(Denial::Present);
     }
     let house_count = count_of(house);
@@ -131,7 +125,6 @@ pub(crate) fn admit_add<K: Key, H: Orderly<K>, R: Orderly<K>>(
     key: &K,
     goal: usize,
 ) -> Result<Places, Denial>
-    requires { (H.Line.sound house.now) × (R.Line.sound rival.now) }
     ensures { result ≡ admitted (failed K.Key H.Line R.Line (add (K.Key.value key.now) goal) house.now rival.now ledger) (next_places K.Key H.Line R.Line house.now rival.now) }
 {
     if ledger.requests == COUNTER_LIMIT {

@@ -17,7 +17,6 @@ impl Loading {
         house: &H,
         rival: &R,
     ) -> Result<Loading, Denial>
-        requires { (H.Line.sound house.now) × (R.Line.sound rival.now) }
         ensures { meant (λ (s : Loading). bench_of K.Key H.Line R.Line house.now rival.now s.ledger) result ≡ opened K.Key H.Line R.Line house.now rival.now }
     {
         if !both_empty(house, rival) {
@@ -35,7 +34,6 @@ impl Loading {
         rival: &mut R,
         key: K,
     ) -> Result<(), Denial>
-        requires { (H.Line.sound house.old) × (R.Line.sound rival.old) }
         ensures { Called K.Key H.Line R.Line (load (K.Key.value key)) house.old rival.old self.old.ledger result house.new rival.new self.new.ledger }
     {
         let _ = admit_load(house, rival, &key)?;
@@ -44,7 +42,6 @@ impl Loading {
 
     // Ends the loading.
     pub fn start<K: Key, H: Orderly<K>, R: Orderly<K>>(self, house: &H, rival: &R) -> Running
-        requires { (H.Line.sound house.now) × (R.Line.sound rival.now) }
         ensures { Called K.Key H.Line R.Line start house.now rival.now self.ledger (Ok tt) house.now rival.now result.ledger }
     {
         let ledger = kept(self.ledger, house, rival);

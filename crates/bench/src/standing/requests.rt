@@ -19,7 +19,6 @@ impl Running {
         key: K,
         goal: usize,
     ) -> Result<(), Denial>
-        requires { (H.Line.sound house.old) × (R.Line.sound rival.old) }
         ensures { Called K.Key H.Line R.Line (lookup (K.Key.value key) goal) house.old rival.old self.old.ledger result house.new rival.new self.new.ledger }
     {
         let places = admit_lookup(self.ledger, house, rival, &key, goal)?;
@@ -36,7 +35,6 @@ impl Running {
         key: K,
         goal: usize,
     ) -> Result<(), Denial>
-        requires { (H.Line.sound house.old) × (R.Line.sound rival.old) }
         ensures { Called K.Key H.Line R.Line (add (K.Key.value key) goal) house.old rival.old self.old.ledger result house.new rival.new self.new.ledger }
     {
         let places = admit_add(self.ledger, house, rival, &key, goal)?;
@@ -53,7 +51,6 @@ impl Running {
         rival: &mut R,
         key: K,
     ) -> Result<(), Denial>
-        requires { (H.Line.sound house.old) × (R.Line.sound rival.old) }
         ensures { Called K.Key H.Line R.Line (remove (K.Key.value key)) house.old rival.old self.old.ledger result house.new rival.new self.new.ledger }
     {
         let places = admit_remove(self.ledger, house, rival, &key)?;
@@ -69,7 +66,6 @@ impl Running {
         rival: &mut R,
         place: usize,
     ) -> Result<(), Denial>
-        requires { (H.Line.sound house.now) × (R.Line.sound rival.old) }
         ensures { Called K.Key H.Line R.Line (exchange place) house.now rival.old self.old.ledger result house.now rival.new self.new.ledger }
     {
         if self.ledger.paid == COUNTER_LIMIT {
@@ -82,7 +78,6 @@ impl Running {
 
     // Ends the requests.
     pub fn close<K: Key, H: Orderly<K>, R: Orderly<K>>(self, house: &H, rival: &R) -> Closed
-        requires { (H.Line.sound house.now) × (R.Line.sound rival.now) }
         ensures { Called K.Key H.Line R.Line close house.now rival.now self.ledger (Ok tt) house.now rival.now result.ledger }
     {
         let ledger = kept(self.ledger, house, rival);
