@@ -2,14 +2,21 @@
 ghost use Rattle.std.specs.Prelude.{◌≡◌, Ok};
 ghost use Rattle.keys.specs.Spelling.{meant};
 ghost use Rattle.reckoning.specs.Reckoning.{load, start};
-ghost use Rattle.bench.specs.Benches.{opened, bench_of, Called};
+ghost use Rattle.bench.specs.Benches.{both_empty, opened, bench_of, Called};
 
-use super::super::admit::{admit_load, both_empty};
+use super::super::admit::Seen;
 use super::super::effect::{append_both, kept};
 use super::super::ledger::Ledger;
 use super::{Loading, Running};
 use keys::{Denial, Key};
 use lines::{Line, Orderly};
+
+// Whether no key stands in either line.
+fn both_empty<K: Key, H: Orderly<K>, R: Orderly<K>>(house: &H, rival: &R) -> bool
+    ensures { result ≡ both_empty (H.Line.keys house.now) (R.Line.keys rival.now) }
+{
+    house.count() == 0 && rival.count() == 0
+}
 
 impl Loading {
     // Opens a bench on two empty lines.
@@ -36,7 +43,12 @@ impl Loading {
     ) -> Result<(), Denial>
         ensures { Called K.Key H.Line R.Line (load (K.Key.value key)) house.old rival.old self.old.ledger result house.new rival.new self.new.ledger }
     {
-        let _ = admit_load(house, rival, &key)?;
+        let seen = Seen {
+            ledger: self.ledger,
+            house: &*house,
+            rival: &*rival,
+        };
+        let _ = seen.admit_load(&key)?;
         append_both(house, rival, key)
     }
 

@@ -3,7 +3,7 @@ ghost use Rattle.std.specs.Prelude.{◌≡◌, Ok};
 ghost use Rattle.reckoning.specs.Reckoning.{lookup, add, remove, exchange, close};
 ghost use Rattle.bench.specs.Benches.{Called};
 
-use super::super::admit::{admit_add, admit_lookup, admit_remove};
+use super::super::admit::Seen;
 use super::super::effect::{append_both, bring_both, kept, take_both};
 use super::super::ledger::{COUNTER_LIMIT, Ledger};
 use super::{Closed, Running};
@@ -21,7 +21,12 @@ impl Running {
     ) -> Result<(), Denial>
         ensures { Called K.Key H.Line R.Line (lookup (K.Key.value key) goal) house.old rival.old self.old.ledger result house.new rival.new self.new.ledger }
     {
-        let places = admit_lookup(self.ledger, house, rival, &key, goal)?;
+        let seen = Seen {
+            ledger: self.ledger,
+            house: &*house,
+            rival: &*rival,
+        };
+        let places = seen.admit_lookup(&key, goal)?;
         bring_both(house, rival, places, goal)?;
         self.ledger = self.ledger.served(places, places.rival - goal);
         Ok(())
@@ -37,7 +42,12 @@ impl Running {
     ) -> Result<(), Denial>
         ensures { Called K.Key H.Line R.Line (add (K.Key.value key) goal) house.old rival.old self.old.ledger result house.new rival.new self.new.ledger }
     {
-        let places = admit_add(self.ledger, house, rival, &key, goal)?;
+        let seen = Seen {
+            ledger: self.ledger,
+            house: &*house,
+            rival: &*rival,
+        };
+        let places = seen.admit_add(&key, goal)?;
         append_both(house, rival, key)?;
         bring_both(house, rival, places, goal)?;
         self.ledger = self.ledger.served(places, places.rival - goal);
@@ -53,7 +63,12 @@ impl Running {
     ) -> Result<(), Denial>
         ensures { Called K.Key H.Line R.Line (remove (K.Key.value key)) house.old rival.old self.old.ledger result house.new rival.new self.new.ledger }
     {
-        let places = admit_remove(self.ledger, house, rival, &key)?;
+        let seen = Seen {
+            ledger: self.ledger,
+            house: &*house,
+            rival: &*rival,
+        };
+        let places = seen.admit_remove(&key)?;
         take_both(house, rival, places)?;
         self.ledger = self.ledger.served(places, 0);
         Ok(())
