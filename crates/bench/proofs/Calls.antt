@@ -37,26 +37,24 @@ module _ {K H R : Type 0} (key : KeyMeaning K) (house : LineMeaning H K) (rival 
     (decides : (v w : key.Value) → Decides (key.equal v w) (v ≡ w)) where
   -- the answer and the effect are the reckoning's
   pub settled-call : (call : Call key.Value) (h : H) (r : R) (ledger : Ledger) {answer : Result (Unit {0}) Denial} (h' : H) (r' : R) (ledger' : Ledger)
-      → house.sound h' → rival.sound r' → limits_of key house rival h' r' ≡ limits_of key house rival h r → (o : Option Denial) → failed key house rival call h r ledger ≡ o
+      → limits_of key house rival h' r' ≡ limits_of key house rival h r → (o : Option Denial) → failed key house rival call h r ledger ≡ o
       → decided o (done key.equal call (bench_of key house rival h r ledger)) (bench_of key house rival h r ledger) ≡ (answer, bench_of key house rival h' r' ledger')
       → ((denial : Denial) → answer ≡ Err denial → (house.keys h' ≡ house.keys h) × (rival.keys r' ≡ rival.keys r))
       → Called key house rival call h r ledger answer h' r' ledger'
-  settled-call call h r ledger {answer} h' r' ledger' sh sr limits o e settled kept =
+  settled-call call h r ledger {answer} h' r' ledger' limits o e settled kept =
       let s : State key.Value = bench_of key house rival h r ledger in
       record {
-        house_sound = sh;
-        rival_sound = sr;
         limits = limits;
         made = made key.equal decides (limits_of key house rival h r) call s answer (bench_of key house rival h' r' ledger') (ap (λ o. decided o (done key.equal call s) s) e ∙ settled);
         kept = kept;
       }
 
-  pub denied-call : (call : Call key.Value) (h : H) (r : R) (ledger : Ledger) {answer : Result (Unit {0}) Denial} (d : Denial) → house.sound h → rival.sound r
+  pub denied-call : (call : Call key.Value) (h : H) (r : R) (ledger : Ledger) {answer : Result (Unit {0}) Denial} (d : Denial)
       → answer ≡ Err d → failed key house rival call h r ledger ≡ Some d → Called key house rival call h r ledger answer h r ledger
-  denied-call call h r ledger d sh sr a e = settled-call call h r ledger h r ledger sh sr refl (Some d) e (ap (λ b. (b, bench_of key house rival h r ledger)) (sym a)) (λ _ _. (refl, refl))
+  denied-call call h r ledger d a e = settled-call call h r ledger h r ledger refl (Some d) e (ap (λ b. (b, bench_of key house rival h r ledger)) (sym a)) (λ _ _. (refl, refl))
 
   pub done-call : (call : Call key.Value) (h : H) (r : R) (ledger : Ledger) {answer : Result (Unit {0}) Denial} (h' : H) (r' : R) (ledger' : Ledger)
-      → house.sound h' → rival.sound r' → limits_of key house rival h' r' ≡ limits_of key house rival h r
+      → limits_of key house rival h' r' ≡ limits_of key house rival h r
       → answer ≡ Ok tt → failed key house rival call h r ledger ≡ None → bench_of key house rival h' r' ledger' ≡ done key.equal call (bench_of key house rival h r ledger)
       → Called key house rival call h r ledger answer h' r' ledger'
-  done-call call h r ledger h' r' ledger' sh sr limits a e after = settled-call call h r ledger h' r' ledger' sh sr limits None e (λ i. (sym a i, sym after i)) (λ _ b. absurd (ok-not-err a b))
+  done-call call h r ledger h' r' ledger' limits a e after = settled-call call h r ledger h' r' ledger' limits None e (λ i. (sym a i, sym after i)) (λ _ b. absurd (ok-not-err a b))

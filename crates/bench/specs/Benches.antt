@@ -32,11 +32,9 @@ module _ {K H R : Type 0} (key : KeyMeaning K) (house : LineMeaning H K) (rival 
   abbrev pub opened : H → R → Result (State key.Value) Denial
   opened h r = cond (both_empty (house.keys h) (rival.keys r)) (Ok (reckoned key.equal (limits_of h r) [])) (Err NotEmpty)
 
-  -- a call of a bench on the lines h and r left the lines h' and r': sound, with their limits, and in the orders, with the numbers and
-  -- the answer that the reckoning gives; and where it was denied, with the very keys that they held
+  -- a call of a bench on the lines h and r left the lines h' and r': with their limits, and in the orders, with the numbers and the answer
+  -- that the reckoning gives; and where it was denied, with the very keys that they held
   pub record Called (call : Call key.Value) (h : H) (r : R) (ledger : Ledger) (answer : Result (Unit {0}) Denial) (h' : H) (r' : R) (ledger' : Ledger) : Type 0 where
-    pub house_sound : house.sound h'
-    pub rival_sound : rival.sound r'
     pub limits : limits_of h' r' ≡ limits_of h r
     pub made : Made key.equal (limits_of h r) call (bench_of h r ledger) answer (bench_of h' r' ledger')
     pub kept : (denial : Denial) → answer ≡ Err denial → (house.keys h' ≡ house.keys h) × (rival.keys r' ≡ rival.keys r)

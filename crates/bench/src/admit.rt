@@ -1,7 +1,6 @@
 // The checks of each call, in their order, before anything is changed.
 ghost use Rattle.std.specs.Prelude.{◌≡◌, ◌≤◌, map, length};
 ghost use Rattle.reckoning.specs.Reckoning.{outside, lookup, add, remove};
-ghost use Rattle.bench.specs.Benches.{both_empty};
 ghost use Rattle.bench.specs.Admission.{admitted, failed, load_failed, found, places_of, next_places};
 
 use super::ledger::{COUNTER_LIMIT, Ledger};
@@ -15,131 +14,114 @@ pub(crate) struct Places {
     pub(crate) rival: usize,
 }
 
+// A bench as the checks of its calls see it: its numbers and its two lines.
+#[derive_where(Clone, Copy)]
+pub(crate) struct Seen<'a, H, R> {
+    pub(crate) ledger: Ledger,
+    pub(crate) house: &'a H,
+    pub(crate) rival: &'a R,
+}
+
 // How many keys stand in a line.
 fn count_of<K: Key, L: Orderly<K>>(line: &L) -> usize
-    requires { L.Line.sound line.now }
     ensures value { result ≡ length (map K.Key.value (L.Line.keys line.now)) }
     ensures bound { result ≤ 256 }
 {
     line.count()
 }
 
-// Whether no key stands in either line.
-pub(crate) fn both_empty<K: Key, H: Orderly<K>, R: Orderly<K>>(house: &H, rival: &R) -> bool
-    requires { (H.Line.sound house.now) × (R.Line.sound rival.now) }
-    ensures { result ≡ both_empty (H.Line.keys house.now) (R.Line.keys rival.now) }
-{
-    house.count() == 0 && rival.count() == 0
-}
-
-// The places of a key that stands on both sides, or none where it stands on neither.
-fn find<K: Key, H: Orderly<K>, R: Orderly<K>>(
-    house: &H,
-    rival: &R,
-    key: &K,
-) -> Result<Option<Places>, Denial>
-    requires { (H.Line.sound house.now) × (R.Line.sound rival.now) }
-    ensures { result ≡ found K.Key.own H.Line R.Line key.now house.now rival.now }
-{
-    let house_count = count_of(house);
-    let rival_count = count_of(rival);
-    if house_count != rival_count {
-        return Err(Denial::Unmatched);
-    }
-    match (house.place_of(key), rival.place_of(key)) {
-        (Some(house), Some(rival)) => Ok(Some(Places { house, rival })),
-        (None, None) => Ok(None),
-        (Some(_), None) => Err(Denial::Unmatched),
-        (None, Some(_)) => Err(Denial::Unmatched),
-    }
-}
-
 // Whether a goal is not from 1 to the place.
 fn is_outside(goal: usize, place: usize) -> bool
     ensures { result ≡ outside goal place }
 {
-    goal < 1 || place < goal
+    !(1..=place).contains(&goal)
 }
 
-// The checks of a removal: the counter, then that the key stands on both sides.
-pub(crate) fn admit_remove<K: Key, H: Orderly<K>, R: Orderly<K>>(
-    ledger: Ledger,
-    house: &H,
-    rival: &R,
-    key: &K,
-) -> Result<Places, Denial>
-    requires { (H.Line.sound house.now) × (R.Line.sound rival.now) }
-    ensures { result ≡ admitted (failed K.Key.own H.Line R.Line (remove (K.Key.value key.now)) house.now rival.now ledger) (places_of K.Key.own H.Line R.Line key.now house.now rival.now) }
-{
-    if ledger.requests == COUNTER_LIMIT {
-        return Err(Denial::Exhausted);
+impl<'a, H, R> Seen<'a, H, R> {
+    // The places of a key that stands on both sides, or none where it stands on neither.
+    fn find<K: Key>(&self, key: &K) -> Result<Option<Places>, Denial>
+    where
+        H: Orderly<K>,
+        R: Orderly<K>,
+        ensures { result ≡ found K.Key.own H.Line R.Line key.now self.now.house.now self.now.rival.now }
+    {
+        let house_count = count_of(self.house);
+        let rival_count = count_of(self.rival);
+        if house_count != rival_count {
+            return Err(Denial::Unmatched);
+        }
+        match (self.house.place_of(key), self.rival.place_of(key)) {
+            (Some(house), Some(rival)) => Ok(Some(Places { house, rival })),
+            (None, None) => Ok(None),
+            (Some(_), None) => Err(Denial::Unmatched),
+            (None, Some(_)) => Err(Denial::Unmatched),
+        }
     }
-    let Some(places) = find(house, rival, key)? else {
-        return Err(Denial::Absent);
-    };
-    Ok(places)
-}
 
-// The checks of a lookup: those of a removal, then the goal.
-pub(crate) fn admit_lookup<K: Key, H: Orderly<K>, R: Orderly<K>>(
-    ledger: Ledger,
-    house: &H,
-    rival: &R,
-    key: &K,
-    goal: usize,
-) -> Result<Places, Denial>
-    requires { (H.Line.sound house.now) × (R.Line.sound rival.now) }
-    ensures { result ≡ admitted (failed K.Key.own H.Line R.Line (lookup (K.Key.value key.now) goal) house.now rival.now ledger) (places_of K.Key.own H.Line R.Line key.now house.now rival.now) }
-{
-    let places = admit_remove(ledger, house, rival, key)?;
-    if is_outside(goal, places.rival) {
-        return Err(Denial::BadGoal);
+    // The checks of a removal: the counter, then that the key stands on both sides.
+    pub(crate) fn admit_remove<K: Key>(&self, key: &K) -> Result<Places, Denial>
+    where
+        H: Orderly<K>,
+        R: Orderly<K>,
+        ensures { result ≡ admitted (failed K.Key.own H.Line R.Line (remove (K.Key.value key.now)) self.now.house.now self.now.rival.now self.now.ledger) (places_of K.Key.own H.Line R.Line key.now self.now.house.now self.now.rival.now) }
+    {
+        if self.ledger.requests == COUNTER_LIMIT {
+            return Err(Denial::Exhausted);
+        }
+        self.find(key)?.ok_or(Denial::Absent)
     }
-    Ok(places)
-}
 
-// The checks of a load: that the key stands on neither side, then that neither is full.
-pub(crate) fn admit_load<K: Key, H: Orderly<K>, R: Orderly<K>>(
-    house: &H,
-    rival: &R,
-    key: &K,
-) -> Result<Places, Denial>
-    requires { (H.Line.sound house.now) × (R.Line.sound rival.now) }
-    ensures { result ≡ admitted (load_failed K.Key.own H.Line R.Line key.now house.now rival.now) (next_places K.Key.own H.Line R.Line house.now rival.now) }
-{
-    if let Some(_) = find(house, rival, key)? {
-        return Err(Denial::Present);
+    // The checks of a lookup: those of a removal, then the goal.
+    pub(crate) fn admit_lookup<K: Key>(&self, key: &K, goal: usize) -> Result<Places, Denial>
+    where
+        H: Orderly<K>,
+        R: Orderly<K>,
+        ensures { result ≡ admitted (failed K.Key.own H.Line R.Line (lookup (K.Key.value key.now) goal) self.now.house.now self.now.rival.now self.now.ledger) (places_of K.Key.own H.Line R.Line key.now self.now.house.now self.now.rival.now) }
+    {
+        let places = self.admit_remove(key)?;
+        if is_outside(goal, places.rival) {
+            return Err(Denial::BadGoal);
+        }
+        Ok(places)
     }
-    let house_count = count_of(house);
-    let rival_count = count_of(rival);
-    let house_limit = house.limit();
-    let rival_limit = rival.limit();
-    if house_count == house_limit || rival_count == rival_limit {
-        return Err(Denial::Full);
-    }
-    Ok(Places {
-        house: house_count + 1,
-        rival: rival_count + 1,
-    })
-}
 
-// The checks of an addition: the counter, those of a load, then the goal.
-pub(crate) fn admit_add<K: Key, H: Orderly<K>, R: Orderly<K>>(
-    ledger: Ledger,
-    house: &H,
-    rival: &R,
-    key: &K,
-    goal: usize,
-) -> Result<Places, Denial>
-    requires { (H.Line.sound house.now) × (R.Line.sound rival.now) }
-    ensures { result ≡ admitted (failed K.Key.own H.Line R.Line (add (K.Key.value key.now) goal) house.now rival.now ledger) (next_places K.Key.own H.Line R.Line house.now rival.now) }
-{
-    if ledger.requests == COUNTER_LIMIT {
-        return Err(Denial::Exhausted);
+    // The checks of a load: that the key stands on neither side, then that neither is full.
+    pub(crate) fn admit_load<K: Key>(&self, key: &K) -> Result<Places, Denial>
+    where
+        H: Orderly<K>,
+        R: Orderly<K>,
+        ensures { result ≡ admitted (load_failed K.Key.own H.Line R.Line key.now self.now.house.now self.now.rival.now) (next_places K.Key.own H.Line R.Line self.now.house.now self.now.rival.now) }
+    {
+        if self.find(key)?.is_some() {
+            return Err(Denial::Present);
+        }
+        let house_count = count_of(self.house);
+        let rival_count = count_of(self.rival);
+        let house_limit = self.house.limit();
+        let rival_limit = self.rival.limit();
+        if house_count == house_limit || rival_count == rival_limit {
+            return Err(Denial::Full);
+        }
+        Ok(Places {
+            house: house_count + 1,
+            rival: rival_count + 1,
+        })
     }
-    let places = admit_load(house, rival, key)?;
-    if is_outside(goal, places.rival) {
-        return Err(Denial::BadGoal);
+
+    // The checks of an addition: the counter, those of a load, then the goal.
+    pub(crate) fn admit_add<K: Key>(&self, key: &K, goal: usize) -> Result<Places, Denial>
+    where
+        H: Orderly<K>,
+        R: Orderly<K>,
+        ensures { result ≡ admitted (failed K.Key.own H.Line R.Line (add (K.Key.value key.now) goal) self.now.house.now self.now.rival.now self.now.ledger) (next_places K.Key.own H.Line R.Line self.now.house.now self.now.rival.now) }
+    {
+        if self.ledger.requests == COUNTER_LIMIT {
+            return Err(Denial::Exhausted);
+        }
+        let places = self.admit_load(key)?;
+        if is_outside(goal, places.rival) {
+            return Err(Denial::BadGoal);
+        }
+        Ok(places)
     }
-    Ok(places)
 }

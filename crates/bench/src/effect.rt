@@ -16,10 +16,8 @@ pub(crate) fn append_both<K: Key, H: Orderly<K>, R: Orderly<K>>(
     rival: &mut R,
     key: K,
 ) -> Result<(), Denial>
-    requires sound { (H.Line.sound house.old) × (R.Line.sound rival.old) }
-    requires fits { load_failed K.Key.own H.Line R.Line key house.old rival.old ≡ None }
+    requires { load_failed K.Key.own H.Line R.Line key house.old rival.old ≡ None }
     ensures done { result ≡ Ok tt }
-    ensures sound { (H.Line.sound house.new) × (R.Line.sound rival.new) }
     ensures limits { limits_of K.Key.own H.Line R.Line house.new rival.new ≡ limits_of K.Key.own H.Line R.Line house.old rival.old }
     ensures house { H.Line.keys house.new ≡ H.Line.keys house.old ++ key ∷ [] }
     ensures rival { R.Line.keys rival.new ≡ R.Line.keys rival.old ++ key ∷ [] }
@@ -35,11 +33,9 @@ pub(crate) fn bring_both<K: Key, H: Orderly<K>, R: Orderly<K>>(
     places: Places,
     goal: usize,
 ) -> Result<(), Denial>
-    requires sound { (H.Line.sound house.old) × (R.Line.sound rival.old) }
     requires house { (1 ≤ places.house) × (places.house ≤ length (H.Line.keys house.old)) }
     requires rival { (1 ≤ goal) × ((goal ≤ places.rival) × (places.rival ≤ length (R.Line.keys rival.old))) }
     ensures done { result ≡ Ok tt }
-    ensures sound { (H.Line.sound house.new) × (R.Line.sound rival.new) }
     ensures limits { limits_of K.Key.own H.Line R.Line house.new rival.new ≡ limits_of K.Key.own H.Line R.Line house.old rival.old }
     ensures house { H.Line.keys house.new ≡ brought_forward places.house 1 (H.Line.keys house.old) }
     ensures rival { R.Line.keys rival.new ≡ brought_forward places.rival goal (R.Line.keys rival.old) }
@@ -54,11 +50,9 @@ pub(crate) fn take_both<K: Key, H: Orderly<K>, R: Orderly<K>>(
     rival: &mut R,
     places: Places,
 ) -> Result<(), Denial>
-    requires sound { (H.Line.sound house.old) × (R.Line.sound rival.old) }
     requires house { (1 ≤ places.house) × (places.house ≤ length (H.Line.keys house.old)) }
     requires rival { (1 ≤ places.rival) × (places.rival ≤ length (R.Line.keys rival.old)) }
     ensures done { result ≡ Ok tt }
-    ensures sound { (H.Line.sound house.new) × (R.Line.sound rival.new) }
     ensures limits { limits_of K.Key.own H.Line R.Line house.new rival.new ≡ limits_of K.Key.own H.Line R.Line house.old rival.old }
     ensures house { H.Line.keys house.new ≡ taken_out places.house (H.Line.keys house.old) }
     ensures rival { R.Line.keys rival.new ≡ taken_out places.rival (R.Line.keys rival.old) }
@@ -73,7 +67,6 @@ pub(crate) fn kept<K: Key, H: Orderly<K>, R: Orderly<K>>(
     house: &H,
     rival: &R,
 ) -> Ledger
-    requires { (H.Line.sound house.now) × (R.Line.sound rival.now) }
     ensures starts { Called K.Key.own H.Line R.Line start house.now rival.now ledger (Ok tt) house.now rival.now result }
     ensures closes { Called K.Key.own H.Line R.Line close house.now rival.now ledger (Ok tt) house.now rival.now result }
 {

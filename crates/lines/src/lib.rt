@@ -12,11 +12,7 @@ use places::may_bring_forward;
 pub use places::{is_place, may_exchange};
 
 // A line means a list of keys in order and a limit, the most keys that it takes. Places count from 1.
-// Each call may rely on the line being sound, and leaves it so, denied or not.
 pub trait Line<K: Key> {
-    // What must hold of a line's own fields for it to mean a list.
-    ghost sound: { Self → Type 0 };
-
     // The keys, from the front.
     ghost keys: { Self → List K };
 
@@ -25,51 +21,39 @@ pub trait Line<K: Key> {
 
     // How many keys stand in the line.
     fn count(&self) -> usize
-        requires { sound self.now }
         ensures { result ≡ length (keys self.now) };
 
     // The most keys that the line takes.
     fn limit(&self) -> usize
-        requires { sound self.now }
         ensures { result ≡ limit self.now };
 
     // The key at a place.
     fn key_at(&self, place: usize) -> Result<K, Denial>
-        requires { sound self.now }
         ensures { result ≡ key_at place (keys self.now) };
 
     // Where a key stands.
     fn place_of(&self, key: &K) -> Option<usize>
-        requires { sound self.now }
         ensures { result ≡ place_of K.Key.equal (K.Key.value key.now) (map K.Key.value (keys self.now)) };
 
     // Puts a key last.
     fn append(&mut self, key: K) -> Result<(), Denial>
-        requires { sound self.old }
-        ensures sound { sound self.new }
         ensures limit { limit self.new ≡ limit self.old }
         ensures keys { appended K.Key.equal K.Key.value (limit self.old) key (keys self.old) ≡ (result, keys self.new) };
 
     // Takes the key at a place out and closes up behind it.
     fn take_out(&mut self, place: usize) -> Result<(), Denial>
-        requires { sound self.old }
-        ensures sound { sound self.new }
         ensures limit { limit self.new ≡ limit self.old }
         ensures gives { result ≡ allowed (is_place place (length (keys self.old))) }
         ensures keys { keys self.new ≡ taken_out place (keys self.old) };
 
     // Lets the keys at a place and at the next one change places.
     fn exchange(&mut self, place: usize) -> Result<(), Denial>
-        requires { sound self.old }
-        ensures sound { sound self.new }
         ensures limit { limit self.new ≡ limit self.old }
         ensures gives { result ≡ allowed (may_exchange place (length (keys self.old))) }
         ensures keys { keys self.new ≡ exchanged place (keys self.old) };
 
     // Brings the key at `from` forward to `to`, by exchanges; a line may have a quicker way.
     fn bring_forward(&mut self, from: usize, to: usize) -> Result<(), Denial>
-        requires { sound self.old }
-        ensures sound { sound self.new }
         ensures limit { limit self.new ≡ limit self.old }
         ensures gives { result ≡ allowed (may_bring_forward from to (length (keys self.old))) }
         ensures keys { keys self.new ≡ brought_forward from to (keys self.old) }
@@ -84,11 +68,12 @@ pub trait Line<K: Key> {
     }
 }
 
-// What holds of every sound line: its keys differ and are no more than its limit, which is at most 256.
+// What holds of every line: its keys differ and are no more than its limit, which is at most 256. What a line's own fields need for
+// that is an invariant of its type.
 pub trait Orderly<K: Key>: Line<K> {
-    ghost different: { (s : Self) → Self.Line.sound s → Different K.Key.equal (map K.Key.value (Self.Line.keys s)) };
+    ghost different: { (s : Self) → Different K.Key.equal (map K.Key.value (Self.Line.keys s)) };
 
-    ghost within: { (s : Self) → Self.Line.sound s → length (Self.Line.keys s) ≤ Self.Line.limit s };
+    ghost within: { (s : Self) → length (Self.Line.keys s) ≤ Self.Line.limit s };
 
-    ghost bounded: { (s : Self) → Self.Line.sound s → Self.Line.limit s ≤ 256 };
+    ghost bounded: { (s : Self) → Self.Line.limit s ≤ 256 };
 }

@@ -2,14 +2,21 @@
 ghost use Rattle.std.specs.Prelude.{◌≡◌, Ok};
 ghost use Rattle.keys.specs.Spelling.{meant};
 ghost use Rattle.reckoning.specs.Reckoning.{load, start};
-ghost use Rattle.bench.specs.Benches.{opened, bench_of, Called};
+ghost use Rattle.bench.specs.Benches.{both_empty, opened, bench_of, Called};
 
-use super::super::admit::{admit_load, both_empty};
+use super::super::admit::Seen;
 use super::super::effect::{append_both, kept};
 use super::super::ledger::Ledger;
 use super::{Loading, Running};
 use keys::{Denial, Key};
 use lines::{Line, Orderly};
+
+// Whether no key stands in either line.
+fn both_empty<K: Key, H: Orderly<K>, R: Orderly<K>>(house: &H, rival: &R) -> bool
+    ensures { result ≡ both_empty (H.Line.keys house.now) (R.Line.keys rival.now) }
+{
+    house.count() == 0 && rival.count() == 0
+}
 
 impl Loading {
     // Opens a bench on two empty lines.
@@ -17,7 +24,6 @@ impl Loading {
         house: &H,
         rival: &R,
     ) -> Result<Loading, Denial>
-        requires { (H.Line.sound house.now) × (R.Line.sound rival.now) }
         ensures { meant (λ (s : Loading). bench_of K.Key.own H.Line R.Line house.now rival.now s.ledger) result ≡ opened K.Key.own H.Line R.Line house.now rival.now }
     {
         if !both_empty(house, rival) {
@@ -35,16 +41,19 @@ impl Loading {
         rival: &mut R,
         key: K,
     ) -> Result<(), Denial>
-        requires { (H.Line.sound house.old) × (R.Line.sound rival.old) }
         ensures { Called K.Key.own H.Line R.Line (load (K.Key.value key)) house.old rival.old self.old.ledger result house.new rival.new self.new.ledger }
     {
-        let _ = admit_load(house, rival, &key)?;
+        let seen = Seen {
+            ledger: self.ledger,
+            house: &*house,
+            rival: &*rival,
+        };
+        let _ = seen.admit_load(&key)?;
         append_both(house, rival, key)
     }
 
     // Ends the loading.
     pub fn start<K: Key, H: Orderly<K>, R: Orderly<K>>(self, house: &H, rival: &R) -> Running
-        requires { (H.Line.sound house.now) × (R.Line.sound rival.now) }
         ensures { Called K.Key.own H.Line R.Line start house.now rival.now self.ledger (Ok tt) house.now rival.now result.ledger }
     {
         let ledger = kept(self.ledger, house, rival);

@@ -3,7 +3,7 @@ ghost use Rattle.std.specs.Prelude.{◌≡◌, Ok};
 ghost use Rattle.reckoning.specs.Reckoning.{lookup, add, remove, exchange, close};
 ghost use Rattle.bench.specs.Benches.{Called};
 
-use super::super::admit::{admit_add, admit_lookup, admit_remove};
+use super::super::admit::Seen;
 use super::super::effect::{append_both, bring_both, kept, take_both};
 use super::super::ledger::{COUNTER_LIMIT, Ledger};
 use super::{Closed, Running};
@@ -19,10 +19,14 @@ impl Running {
         key: K,
         goal: usize,
     ) -> Result<(), Denial>
-        requires { (H.Line.sound house.old) × (R.Line.sound rival.old) }
         ensures { Called K.Key.own H.Line R.Line (lookup (K.Key.value key) goal) house.old rival.old self.old.ledger result house.new rival.new self.new.ledger }
     {
-        let places = admit_lookup(self.ledger, house, rival, &key, goal)?;
+        let seen = Seen {
+            ledger: self.ledger,
+            house: &*house,
+            rival: &*rival,
+        };
+        let places = seen.admit_lookup(&key, goal)?;
         bring_both(house, rival, places, goal)?;
         self.ledger = self.ledger.served(places, places.rival - goal);
         Ok(())
@@ -36,10 +40,14 @@ impl Running {
         key: K,
         goal: usize,
     ) -> Result<(), Denial>
-        requires { (H.Line.sound house.old) × (R.Line.sound rival.old) }
         ensures { Called K.Key.own H.Line R.Line (add (K.Key.value key) goal) house.old rival.old self.old.ledger result house.new rival.new self.new.ledger }
     {
-        let places = admit_add(self.ledger, house, rival, &key, goal)?;
+        let seen = Seen {
+            ledger: self.ledger,
+            house: &*house,
+            rival: &*rival,
+        };
+        let places = seen.admit_add(&key, goal)?;
         append_both(house, rival, key)?;
         bring_both(house, rival, places, goal)?;
         self.ledger = self.ledger.served(places, places.rival - goal);
@@ -53,10 +61,14 @@ impl Running {
         rival: &mut R,
         key: K,
     ) -> Result<(), Denial>
-        requires { (H.Line.sound house.old) × (R.Line.sound rival.old) }
         ensures { Called K.Key.own H.Line R.Line (remove (K.Key.value key)) house.old rival.old self.old.ledger result house.new rival.new self.new.ledger }
     {
-        let places = admit_remove(self.ledger, house, rival, &key)?;
+        let seen = Seen {
+            ledger: self.ledger,
+            house: &*house,
+            rival: &*rival,
+        };
+        let places = seen.admit_remove(&key)?;
         take_both(house, rival, places)?;
         self.ledger = self.ledger.served(places, 0);
         Ok(())
@@ -69,7 +81,6 @@ impl Running {
         rival: &mut R,
         place: usize,
     ) -> Result<(), Denial>
-        requires { (H.Line.sound house.now) × (R.Line.sound rival.old) }
         ensures { Called K.Key.own H.Line R.Line (exchange place) house.now rival.old self.old.ledger result house.now rival.new self.new.ledger }
     {
         if self.ledger.paid == COUNTER_LIMIT {
@@ -82,7 +93,6 @@ impl Running {
 
     // Ends the requests.
     pub fn close<K: Key, H: Orderly<K>, R: Orderly<K>>(self, house: &H, rival: &R) -> Closed
-        requires { (H.Line.sound house.now) × (R.Line.sound rival.now) }
         ensures { Called K.Key.own H.Line R.Line close house.now rival.now self.ledger (Ok tt) house.now rival.now result.ledger }
     {
         let ledger = kept(self.ledger, house, rival);

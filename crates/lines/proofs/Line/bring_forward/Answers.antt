@@ -9,7 +9,6 @@ returns-then-not-may_bring_forward g c =
     let xs = g.Self.Line.keys c.args.self.now in
     let not : may_bring_forward c.args.from c.args.to (length xs) ≡ false = cc in
     record {
-      sound = search rules;
       limit = search rules;
       gives = ap allowed (sym not);
       keys = sym (forward-denied c.args.from c.args.to xs not);
@@ -20,7 +19,7 @@ loop-place-init g c =
     let xs = g.Self.Line.keys c.args.self.now in
     let may : may_bring_forward c.args.from c.args.to (length xs) ≡ true = cc in
     let range = forward-range c.args.from c.args.to (length xs) may in
-    (may, range.1, omega arith, c.requires, refl, refl, sym (forward-stays c.args.from xs range.2))
+    (may, range.1, omega arith, refl, refl, sym (forward-stays c.args.from xs range.2))
 
 pub loop-place-preserved : goal.loop-place-preserved
 loop-place-preserved g c =
@@ -33,16 +32,15 @@ loop-place-preserved g c =
       inv.0,
       omega arith,
       omega arith,
-      c.exchange.ensures.sound,
-      c.exchange.ensures.limit ∙ inv.4,
-      ap length c.exchange.ensures.keys ∙ length_exchanged _ _ ∙ inv.5,
-      c.exchange.ensures.keys ∙ ap (exchanged (n - 1)) inv.6 ∙ rw again at step,
+      c.exchange.ensures.limit ∙ inv.3,
+      ap length c.exchange.ensures.keys ∙ length_exchanged _ _ ∙ inv.4,
+      c.exchange.ensures.keys ∙ ap (exchanged (n - 1)) inv.5 ∙ rw again at step,
     )
 
 pub returns-in_err-exchange : goal.returns-in_err-exchange
 returns-in_err-exchange g c =
     let range = forward-range c.args.from c.args.to (length (g.Self.Line.keys c.args.self.now)) c.loop-place.invariant.0 in
-    let n = c.loop-place.invariant.5 in
+    let n = c.loop-place.invariant.4 in
     let was = c.in_err-exchange.was in
     let gives = c.exchange.ensures.gives in
     absurd (grind (arith, nat_tests))
@@ -51,4 +49,4 @@ pub returns : goal.returns
 returns g c =
     let inv = c.loop-place.invariant in
     let at : c.loop-place.place ≡ c.args.to = omega arith in
-    record { sound = inv.3; limit = inv.4; gives = ap allowed (sym inv.0); keys = rw at at inv.6 }
+    record { limit = inv.3; gives = ap allowed (sym inv.0); keys = rw at at inv.5 }

@@ -7,7 +7,7 @@ abbrev pub invariant-loop-place : goal.invariant-loop-place
 invariant-loop-place g l =
     let line = g.Self.Line in
     (may_bring_forward l.from l.to (length (line.keys l.initial.self)) ≡ true)
-    × (l.to ≤ l.place) × (l.place ≤ l.from) × line.sound l.self
+    × (l.to ≤ l.place) × (l.place ≤ l.from)
     × (line.limit l.self ≡ line.limit l.initial.self)
     × (length (line.keys l.self) ≡ length (line.keys l.initial.self))
     × (line.keys l.self ≡ brought_forward l.from l.place (line.keys l.initial.self))

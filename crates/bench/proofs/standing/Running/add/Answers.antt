@@ -11,7 +11,7 @@ use Rattle.bench.proofs.standing.Running.add.Goals as goal
 pub returns-in_err-places : goal.returns-in_err-places
 returns-in_err-places g c =
     let p = err_from_is_err_and c.from_residual.result c.from_residual.ensures.1 in
-    denied-call g.K.Key g.H.Line g.R.Line g.met.K.Key.decides (add (g.K.Key.value c.args.key) c.args.goal) c.args.house.now c.args.rival.now c.args.self.now.ledger p.0 c.requires.0 c.requires.1 p.1
+    denied-call g.K.Key g.H.Line g.R.Line g.met.K.Key.decides (add (g.K.Key.value c.args.key) c.args.goal) c.args.house.now c.args.rival.now c.args.self.now.ledger p.0 p.1
     (admitted-err (failed g.K.Key g.H.Line g.R.Line (add (g.K.Key.value c.args.key) c.args.goal) c.args.house.now c.args.rival.now c.args.self.now.ledger) (next_places g.K.Key g.H.Line g.R.Line c.args.house.now c.args.rival.now) c.admit_add.ensures (c.in_err-places.was ∙ ap Err (sym p.2)))
 
 pub overflow_sub-places : goal.overflow_sub-places
@@ -24,7 +24,6 @@ bring_both-requires g c =
     let hl = ap length post.house ∙ length_push (g.H.Line.keys c.args.house.now) c.args.key in
     let rl = ap length post.rival ∙ length_push (g.R.Line.keys c.args.rival.now) c.args.key in
     record {
-      sound = post.sound;
       house = (a.0.house_low, omega (arith, a.0.house_high));
       rival = (a.1, (a.2, omega (arith, a.0.rival_high)));
     }
@@ -32,10 +31,10 @@ bring_both-requires g c =
 pub served-self-requires : goal.served-self-requires
 served-self-requires g c =
     let a = add-ready g.K.Key g.H.Line g.R.Line g.met.K.Key.decides c.args.key c.args.house.now c.args.rival.now c.args.self.now.ledger c.in_ok-places.places c.args.goal c.admit_add.ensures c.in_ok-places.was in
-    let hw = g.met.H.Orderly.within c.args.house.now c.requires.0 in
-    let hb = g.met.H.Orderly.bounded c.args.house.now c.requires.0 in
-    let rw' = g.met.R.Orderly.within c.args.rival.now c.requires.1 in
-    let rb = g.met.R.Orderly.bounded c.args.rival.now c.requires.1 in
+    let hw = g.met.H.Orderly.within c.args.house.now in
+    let hb = g.met.H.Orderly.bounded c.args.house.now in
+    let rw' = g.met.R.Orderly.within c.args.rival.now in
+    let rb = g.met.R.Orderly.bounded c.args.rival.now in
     omega arith
 
 pub returns : goal.returns
@@ -43,7 +42,7 @@ returns g c =
     let a = add-ready g.K.Key g.H.Line g.R.Line g.met.K.Key.decides c.args.key c.args.house.now c.args.rival.now c.args.self.now.ledger c.in_ok-places.places c.args.goal c.admit_add.ensures c.in_ok-places.was in
     let post = c.bring_both.ensures in
     done-call g.K.Key g.H.Line g.R.Line g.met.K.Key.decides (add (g.K.Key.value c.args.key) c.args.goal) c.args.house.now c.args.rival.now c.args.self.now.ledger c.bring_both.new.house c.bring_both.new.rival c.served-self.result
-    post.sound.0 post.sound.1 (c.bring_both.ensures.limits ∙ c.append_both.ensures.limits) refl a.0.passed
+    (c.bring_both.ensures.limits ∙ c.append_both.ensures.limits) refl a.0.passed
     (add_done g.K.Key g.H.Line g.R.Line g.met.K.Key.decides c.args.key c.args.house.now c.args.rival.now c.args.self.now.ledger c.bring_both.new.house c.bring_both.new.rival c.served-self.result c.args.goal c.in_ok-places.places a.0.at
     (post.house ∙ ap (brought_forward c.in_ok-places.places.house 1) c.append_both.ensures.house)
     (post.rival ∙ ap (brought_forward c.in_ok-places.places.rival c.args.goal) c.append_both.ensures.rival)

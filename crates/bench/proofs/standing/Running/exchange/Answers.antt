@@ -13,7 +13,7 @@ use Rattle.bench.proofs.standing.Running.exchange.Goals as goal
 
 pub returns-then-self-eq-COUNTER_LIMIT : goal.returns-then-self-eq-COUNTER_LIMIT
 returns-then-self-eq-COUNTER_LIMIT g c =
-    denied-call g.K.Key g.H.Line g.R.Line g.met.K.Key.decides (exchange c.args.place) c.args.house.now c.args.rival.now c.args.self.now.ledger Exhausted c.requires.0 c.requires.1 refl
+    denied-call g.K.Key g.H.Line g.R.Line g.met.K.Key.decides (exchange c.args.place) c.args.house.now c.args.rival.now c.args.self.now.ledger Exhausted refl
     (rw (eq-eqb c.args.self.now.ledger.paid most c.if-self-eq-COUNTER_LIMIT.true) refl)
 
 pub returns-in_err-exchange : goal.returns-in_err-exchange
@@ -24,7 +24,7 @@ returns-in_err-exchange g c =
     let less : eqb c.args.self.now.ledger.paid most ≡ false = ne_eqb _ _ c.if-self-eq-COUNTER_LIMIT.false in
     let far : may_exchange c.args.place (length (map g.K.Key.value ks)) ≡ false = rw (length-map ks g.K.Key.value) out.0 in
     let same = c.exchange.ensures.keys ∙ exchanged-outside c.args.place ks (past-exchange c.args.place (length ks) out.0) in
-    settled-call g.K.Key g.H.Line g.R.Line g.met.K.Key.decides (exchange c.args.place) c.args.house.now c.args.rival.now c.args.self.now.ledger c.args.house.now c.exchange.new.self c.args.self.now.ledger c.requires.0 c.exchange.ensures.sound
+    settled-call g.K.Key g.H.Line g.R.Line g.met.K.Key.decides (exchange c.args.place) c.args.house.now c.args.rival.now c.args.self.now.ledger c.args.house.now c.exchange.new.self c.args.self.now.ledger
     (λ i. record { house = g.H.Line.limit c.args.house.now; rival = c.exchange.ensures.limit i }) (Some OutOfRange)
     (rw (less, far) refl)
     (λ i. (sym (p.1 ∙ ap Err out.1) i, record { house = map g.K.Key.value (g.H.Line.keys c.args.house.now); rival = map g.K.Key.value (sym same i); sums = sums_of c.args.self.now.ledger }))
@@ -36,7 +36,7 @@ returns g c =
     let may = allowed-ok (may_exchange c.args.place (length ks)) c.exchange.ensures.gives c.in_ok-exchange.was in
     let less : eqb c.args.self.now.ledger.paid most ≡ false = ne_eqb _ _ c.if-self-eq-COUNTER_LIMIT.false in
     let near : may_exchange c.args.place (length (map g.K.Key.value ks)) ≡ true = rw (length-map ks g.K.Key.value) may in
-    done-call g.K.Key g.H.Line g.R.Line g.met.K.Key.decides (exchange c.args.place) c.args.house.now c.args.rival.now c.args.self.now.ledger c.args.house.now c.exchange.new.self c.exchanged-self.result c.requires.0 c.exchange.ensures.sound
+    done-call g.K.Key g.H.Line g.R.Line g.met.K.Key.decides (exchange c.args.place) c.args.house.now c.args.rival.now c.args.self.now.ledger c.args.house.now c.exchange.new.self c.exchanged-self.result
     (λ i. record { house = g.H.Line.limit c.args.house.now; rival = c.exchange.ensures.limit i }) refl
     (rw (less, near) refl)
     (exchange-done g.K.Key g.H.Line g.R.Line c.args.house.now c.args.rival.now c.exchange.new.self c.args.self.now.ledger c.exchanged-self.result c.args.place c.exchange.ensures.keys c.exchanged-self.ensures)

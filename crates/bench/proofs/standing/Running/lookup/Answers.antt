@@ -9,21 +9,21 @@ use Rattle.bench.proofs.standing.Running.lookup.Goals as goal
 pub returns-in_err-places : goal.returns-in_err-places
 returns-in_err-places g c =
     let p = err_from_is_err_and c.from_residual.result c.from_residual.ensures.1 in
-    denied-call g.K.Key g.H.Line g.R.Line g.met.K.Key.decides (lookup (g.K.Key.value c.args.key) c.args.goal) c.args.house.now c.args.rival.now c.args.self.now.ledger p.0 c.requires.0 c.requires.1 p.1
+    denied-call g.K.Key g.H.Line g.R.Line g.met.K.Key.decides (lookup (g.K.Key.value c.args.key) c.args.goal) c.args.house.now c.args.rival.now c.args.self.now.ledger p.0 p.1
     (admitted-err (failed g.K.Key g.H.Line g.R.Line (lookup (g.K.Key.value c.args.key) c.args.goal) c.args.house.now c.args.rival.now c.args.self.now.ledger) (places_of g.K.Key g.H.Line g.R.Line c.args.key c.args.house.now c.args.rival.now) c.admit_lookup.ensures (c.in_err-places.was ∙ ap Err (sym p.2)))
 
 pub bring_both-requires : goal.bring_both-requires
 bring_both-requires g c =
     let a = lookup-ready g.K.Key g.H.Line g.R.Line g.met.K.Key.decides c.args.key c.args.house.now c.args.rival.now c.args.self.now.ledger c.in_ok-places.places c.args.goal c.admit_lookup.ensures c.in_ok-places.was in
-    record { sound = c.requires; house = (a.0.house_low, a.0.house_high); rival = (a.1, (a.2, a.0.rival_high)) }
+    record { house = (a.0.house_low, a.0.house_high); rival = (a.1, (a.2, a.0.rival_high)) }
 
 pub served-self-requires : goal.served-self-requires
 served-self-requires g c =
     let a = lookup-ready g.K.Key g.H.Line g.R.Line g.met.K.Key.decides c.args.key c.args.house.now c.args.rival.now c.args.self.now.ledger c.in_ok-places.places c.args.goal c.admit_lookup.ensures c.in_ok-places.was in
-    let hw = g.met.H.Orderly.within c.args.house.now c.requires.0 in
-    let hb = g.met.H.Orderly.bounded c.args.house.now c.requires.0 in
-    let rw' = g.met.R.Orderly.within c.args.rival.now c.requires.1 in
-    let rb = g.met.R.Orderly.bounded c.args.rival.now c.requires.1 in
+    let hw = g.met.H.Orderly.within c.args.house.now in
+    let hb = g.met.H.Orderly.bounded c.args.house.now in
+    let rw' = g.met.R.Orderly.within c.args.rival.now in
+    let rb = g.met.R.Orderly.bounded c.args.rival.now in
     omega arith
 
 pub returns : goal.returns
@@ -31,5 +31,5 @@ returns g c =
     let a = lookup-ready g.K.Key g.H.Line g.R.Line g.met.K.Key.decides c.args.key c.args.house.now c.args.rival.now c.args.self.now.ledger c.in_ok-places.places c.args.goal c.admit_lookup.ensures c.in_ok-places.was in
     let post = c.bring_both.ensures in
     done-call g.K.Key g.H.Line g.R.Line g.met.K.Key.decides (lookup (g.K.Key.value c.args.key) c.args.goal) c.args.house.now c.args.rival.now c.args.self.now.ledger c.bring_both.new.house c.bring_both.new.rival c.served-self.result
-    post.sound.0 post.sound.1 post.limits refl a.0.passed
+    post.limits refl a.0.passed
     (lookup-done g.K.Key g.H.Line g.R.Line g.met.K.Key.decides c.args.key c.args.house.now c.args.rival.now c.args.self.now.ledger c.bring_both.new.house c.bring_both.new.rival c.served-self.result c.args.goal c.in_ok-places.places a.0.at post.house post.rival c.served-self.ensures)
