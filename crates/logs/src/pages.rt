@@ -1,22 +1,23 @@
 // Page logs: first keys, then requests.
-ghost use Rattle.std.specs.Prelude.{◌≡◌, ◌+◌, ◌^◌, ◌<◌, false, length, IfOk, ◌==◌, nat_lt};
+ghost use Rattle.std.specs.Prelude.{◌≡◌, ◌+◌, ◌^◌, ◌<◌, false, length, Result, IfOk, ◌==◌, nat_lt};
+ghost use Rattle.keys.specs.declared.denial.Denial.{Denial};
 ghost use Rattle.keys.specs.Spelling.{meant};
 ghost use Rattle.logs.specs.Framing.{versioned, lettered_in, read_next, valued, gained};
 ghost use Rattle.logs.specs.Cursors.{left_of, passed_of};
-ghost use Rattle.logs.specs.Pages.{entry_as, spelled_entry, asked, request_of, entry_of, is_request, page_entry, requested_by};
+ghost use Rattle.logs.specs.Pages.{entry_as, spelled_entry, asked, request_of, entry_of, key_of, request_with, record_key, record_with, page_entry, requested_by};
 
-use super::framing::{Cursor, behind_letter, behind_version, next_frame};
+use super::framing::{Cursor, behind_letter, behind_version};
 use keys::{Denial, Key};
 
-// What a page's log asks for, with the spelling of a key, a part of the log.
+// What a page's log asks for, with a key, or with the spelling of one, a part of the log.
 #[derive(Clone, Copy)]
-pub enum Request<'a> {
-    Lookup(&'a [u8]),
-    Add(&'a [u8]),
-    Remove(&'a [u8]),
+pub enum Request<T> {
+    Lookup(T),
+    Add(T),
+    Remove(T),
 }
 
-impl<'a> Request<'a> {
+impl<'a> Request<&'a [u8]> {
     // The spelling of the key.
     pub fn spelling(self) -> &'a [u8]
         ensures { result.now ≡ (request_of self.entry).spelling }
@@ -29,15 +30,42 @@ impl<'a> Request<'a> {
     }
 }
 
+impl<T> Request<T> {
+    // The request with what is made of its key, where that can be made.
+    pub fn try_map<U, F: FnOnce(T) -> Result<U, Denial>>(self, make: F) -> Result<Request<U>, Denial>
+        requires { F.IsAlwaysCallable make }
+        ensures { (made : Result U Denial) × F.post make (key_of self) made × (result ≡ meant (request_with self) made) }
+    {
+        match self {
+            Request::Lookup(key) => Ok(Request::Lookup(make(key)?)),
+            Request::Add(key) => Ok(Request::Add(make(key)?)),
+            Request::Remove(key) => Ok(Request::Remove(make(key)?)),
+        }
+    }
+}
+
 // A record of a page log: a key that the page begins with, or a request.
 #[derive(Clone, Copy)]
-pub enum PageRecord<'a> {
-    First(&'a [u8]),
-    Request(Request<'a>),
+pub enum PageRecord<T> {
+    First(T),
+    Request(Request<T>),
+}
+
+impl<T> PageRecord<T> {
+    // The record with what is made of its key, where that can be made.
+    pub fn try_map<U, F: FnOnce(T) -> Result<U, Denial>>(self, make: F) -> Result<PageRecord<U>, Denial>
+        requires { F.IsAlwaysCallable make }
+        ensures { (made : Result U Denial) × F.post make (record_key self) made × (result ≡ meant (record_with self) made) }
+    {
+        match self {
+            PageRecord::First(key) => Ok(PageRecord::First(make(key)?)),
+            PageRecord::Request(request) => Ok(PageRecord::Request(request.try_map(make)?)),
+        }
+    }
 }
 
 // The record of a letter and a spelling, where a first key does not follow a request.
-fn record_by(letter: u8, spelling: &[u8], requested: bool) -> Result<PageRecord<'_>, Denial>
+fn record_by(letter: u8, spelling: &[u8], requested: bool) -> Result<PageRecord<&[u8]>, Denial>
     ensures { meant entry_of result ≡ entry_as (asked requested letter) spelling.now }
 {
     match letter {
@@ -61,7 +89,7 @@ fn spelled_record<K: Key>(
     letter: u8,
     spelling: &[u8],
     requested: bool,
-) -> Result<PageRecord<'_>, Denial>
+) -> Result<PageRecord<&[u8]>, Denial>
     ensures { meant entry_of result ≡ spelled_entry K.Key.reading requested letter spelling.now }
 {
     if is_too_long::<K>(spelling) {
@@ -72,22 +100,12 @@ fn spelled_record<K: Key>(
 }
 
 // The record of its bytes.
-fn page_record<K: Key>(body: &[u8], requested: bool) -> Result<PageRecord<'_>, Denial>
+fn page_record<K: Key>(body: &[u8], requested: bool) -> Result<PageRecord<&[u8]>, Denial>
     ensures { meant entry_of result ≡ page_entry K.Key.reading requested body.now }
 {
     match body {
         [] => Err(Denial::Layout),
         [letter, spelling @ ..] => spelled_record::<K>(*letter, spelling, requested),
-    }
-}
-
-// Whether a record is a request.
-fn is_request(given: PageRecord<'_>) -> bool
-    ensures { result ≡ is_request (entry_of given.entry) }
-{
-    match given {
-        PageRecord::First(_) => false,
-        PageRecord::Request(_) => true,
     }
 }
 
@@ -113,18 +131,15 @@ impl<'a> PageReader<'a> {
     }
 
     // The next record, or none at the end. A record that is denied is not passed.
-    pub fn next<K: Key>(&mut self) -> Result<Option<PageRecord<'a>>, Denial>
+    pub fn next<K: Key>(&mut self) -> Result<Option<PageRecord<&'a [u8]>>, Denial>
         ensures read { read_next (page_entry K.Key.reading self.old.requested) (left_of self.old.cursor) ≡ (valued entry_of result, left_of self.new.cursor) }
         ensures requested { self.new.requested ≡ requested_by self.old.requested (valued entry_of result) }
         ensures passed { passed_of self.new.cursor ≡ passed_of self.old.cursor + gained result }
     {
-        let Some(frame) = next_frame(self.cursor.rest)? else {
-            return Ok(None);
-        };
-        let given = page_record::<K>(frame.body, self.requested)?;
-        self.cursor.pass(frame.rest);
-        self.requested = self.requested || is_request(given);
-        Ok(Some(given))
+        let requested = self.requested;
+        let next = self.cursor.next_by(|body| page_record::<K>(body, requested))?;
+        self.requested |= matches!(next, Some(PageRecord::Request(_)));
+        Ok(next)
     }
 
     // Whether no byte is left.
