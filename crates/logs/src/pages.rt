@@ -10,7 +10,7 @@ use super::framing::{Cursor, behind_letter, behind_version};
 use keys::{Denial, Key};
 
 // What a page's log asks for, with a key, or with the spelling of one, a part of the log.
-#[derive(Clone, Copy)]
+#[derive(Clone, Copy, PartialEq, Eq, Debug)]
 pub enum Request<T> {
     Lookup(T),
     Add(T),
@@ -23,17 +23,19 @@ impl<'a> Request<&'a [u8]> {
         ensures { result.now ≡ (request_of self.entry).spelling }
     {
         match self {
-            Request::Lookup(spelling) => spelling,
-            Request::Add(spelling) => spelling,
-            Request::Remove(spelling) => spelling,
+            Request::Lookup(spelling) | Request::Add(spelling) | Request::Remove(spelling) =>
+                spelling,
         }
     }
 }
 
 impl<T> Request<T> {
     // The request with what is made of its key, where that can be made.
-    pub fn try_map<U, F: FnOnce(T) -> Result<U, Denial>>(self, make: F) -> Result<Request<U>, Denial>
-        requires { F.IsAlwaysCallable make }
+    pub fn try_map<U, F: FnOnce(T) -> Result<U, Denial>>(
+        self,
+        make: F,
+    ) -> Result<Request<U>, Denial>
+        requires { F.pre make (key_of self) }
         ensures { (made : Result U Denial) × F.post make (key_of self) made × (result ≡ meant (request_with self) made) }
     {
         match self {
@@ -45,7 +47,7 @@ impl<T> Request<T> {
 }
 
 // A record of a page log: a key that the page begins with, or a request.
-#[derive(Clone, Copy)]
+#[derive(Clone, Copy, PartialEq, Eq, Debug)]
 pub enum PageRecord<T> {
     First(T),
     Request(Request<T>),
@@ -53,8 +55,11 @@ pub enum PageRecord<T> {
 
 impl<T> PageRecord<T> {
     // The record with what is made of its key, where that can be made.
-    pub fn try_map<U, F: FnOnce(T) -> Result<U, Denial>>(self, make: F) -> Result<PageRecord<U>, Denial>
-        requires { F.IsAlwaysCallable make }
+    pub fn try_map<U, F: FnOnce(T) -> Result<U, Denial>>(
+        self,
+        make: F,
+    ) -> Result<PageRecord<U>, Denial>
+        requires { F.pre make (record_key self) }
         ensures { (made : Result U Denial) × F.post make (record_key self) made × (result ≡ meant (record_with self) made) }
     {
         match self {
@@ -77,13 +82,6 @@ fn record_by(letter: u8, spelling: &[u8], requested: bool) -> Result<PageRecord<
     }
 }
 
-// Whether a spelling is longer than any of its kind.
-fn is_too_long<K: Key>(spelling: &[u8]) -> bool
-    ensures { result ≡ nat_lt K.Key.longest (length spelling.now) }
-{
-    spelling.len() > K::longest_spelling()
-}
-
 // The record of a letter and a spelling that the kind of key has a value for.
 fn spelled_record<K: Key>(
     letter: u8,
@@ -92,7 +90,7 @@ fn spelled_record<K: Key>(
 ) -> Result<PageRecord<&[u8]>, Denial>
     ensures { meant entry_of result ≡ spelled_entry K.Key.reading requested letter spelling.now }
 {
-    if is_too_long::<K>(spelling) {
+    if spelling.len() > K::longest_spelling() {
         return Err(Denial::Layout);
     }
     let _key = K::read(spelling)?;
@@ -137,7 +135,9 @@ impl<'a> PageReader<'a> {
         ensures passed { passed_of self.new.cursor ≡ passed_of self.old.cursor + gained result }
     {
         let requested = self.requested;
-        let next = self.cursor.next_by(|body| page_record::<K>(body, requested))?;
+        let next = self
+            .cursor
+            .next_by(|body| page_record::<K>(body, requested))?;
         self.requested |= matches!(next, Some(PageRecord::Request(_)));
         Ok(next)
     }

@@ -1,6 +1,5 @@
 use Rattle.std.proofs.Common.{Ok, Err, sym, ap, ◌∙◌}
 use Rattle.std.proofs.lemmas.Result.{err_from_is_err_and}
-use Rattle.std.specs.Fn.{FnOnceReturnsAt}
 use Rattle.logs.specs.Framing.{valued, parts_of}
 use Rattle.logs.proofs.Frames.{read-denied, read-none}
 use Rattle.logs.proofs.framing.Cursor.next_by.Goals as goal
