@@ -13,9 +13,9 @@ use Rattle.logs.specs.declared.pages.PageReader.{PageReader}
 use Rattle.logs.specs.declared.plans.Move.{Move}
 use Rattle.logs.specs.Cursors.{left_of, passed_of}
 use Rattle.logs.specs.Items.{Item}
-use Rattle.turns.specs.declared.entry.Asked.{Asked as ReadRequest}
-use Rattle.turns.specs.declared.entry.Entry.{Entry as ReadRecord}
-use Rattle.turns.specs.declared.entry.Entry.TheVariants.{First, Request}
+use Rattle.logs.specs.declared.pages.Request.{Request as ReadRequest}
+use Rattle.logs.specs.declared.pages.PageRecord.{PageRecord as ReadRecord}
+use Rattle.logs.specs.declared.pages.PageRecord.TheVariants.{First, Request}
 use Rattle.acceptance.specs.Scripts.{Script, faulty, calling, serving, loading}
 use Rattle.turns.specs.Onward.{said_of, request_by, page_left, asked_of, read_by, Advanced, resuming, awaiting, loading_from, awaiting_from, ReadOn, Continues}
 use Rattle.turns.proofs.Going.{held-load, called_on, stays, goes_on}

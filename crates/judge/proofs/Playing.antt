@@ -9,7 +9,7 @@ use Rattle.logs.specs.declared.fault.Fault.{Fault}
 use Rattle.logs.specs.declared.pages.PageReader.{PageReader}
 use Rattle.logs.specs.declared.plans.PlanReader.{PlanReader}
 use Rattle.logs.specs.Cursors.{left_of, passed_of}
-use Rattle.turns.specs.declared.entry.Asked.{Asked as ReadRequest}
+use Rattle.logs.specs.declared.pages.Request.{Request as ReadRequest}
 use Rattle.acceptance.specs.Scripts.{Script, calling, ending}
 use Rattle.turns.specs.Onward.{plan_left, left_over, resuming, going_from, loading_from, awaiting_from, Continues, Loads, PlayedOut}
 use Rattle.turns.proofs.Going.{called_on, goes_on, so, faulted, nothing}

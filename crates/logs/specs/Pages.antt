@@ -24,20 +24,11 @@ pub record Entry : Type 0 where
 abbrev pub entry : Asks → List ℕ → Entry
 entry asks spelling = record { asks = asks; spelling = spelling }
 
--- the key of a request and of a record, and each with another key
-abbrev pub key_of : {T : Type 0} → Request T → T
-key_of (Lookup k) = k
-key_of (Add k) = k
-key_of (Remove k) = k
-
+-- the same request and the same record, of another key
 abbrev pub request_with : {T U : Type 0} → Request T → U → Request U
 request_with (Lookup k) other = Lookup other
 request_with (Add k) other = Add other
 request_with (Remove k) other = Remove other
-
-abbrev pub record_key : {T : Type 0} → PageRecord T → T
-record_key (First k) = k
-record_key (Asked r) = key_of r
 
 abbrev pub record_with : {T U : Type 0} → PageRecord T → U → PageRecord U
 record_with (First k) other = First other

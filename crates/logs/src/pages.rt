@@ -1,10 +1,9 @@
 // Page logs: first keys, then requests.
-ghost use Rattle.std.specs.Prelude.{◌≡◌, ◌+◌, ◌^◌, ◌<◌, false, length, Result, IfOk, ◌==◌, nat_lt};
-ghost use Rattle.keys.specs.declared.denial.Denial.{Denial};
+ghost use Rattle.std.specs.Prelude.{◌≡◌, ◌+◌, ◌^◌, ◌<◌, false, length, IfOk, ◌==◌, nat_lt};
 ghost use Rattle.keys.specs.Spelling.{meant};
 ghost use Rattle.logs.specs.Framing.{versioned, lettered_in, read_next, valued, gained};
 ghost use Rattle.logs.specs.Cursors.{left_of, passed_of};
-ghost use Rattle.logs.specs.Pages.{entry_as, spelled_entry, asked, request_of, entry_of, key_of, request_with, record_key, record_with, page_entry, requested_by};
+ghost use Rattle.logs.specs.Pages.{entry_as, spelled_entry, asked, request_of, entry_of, request_with, record_with, page_entry, requested_by};
 
 use super::framing::{Cursor, behind_letter, behind_version};
 use keys::{Denial, Key};
@@ -30,18 +29,14 @@ impl<'a> Request<&'a [u8]> {
 }
 
 impl<T> Request<T> {
-    // The request with what is made of its key, where that can be made.
-    pub fn try_map<U, F: FnOnce(T) -> Result<U, Denial>>(
-        self,
-        make: F,
-    ) -> Result<Request<U>, Denial>
-        requires { F.pre make (key_of self) }
-        ensures { (made : Result U Denial) × F.post make (key_of self) made × (result ≡ meant (request_with self) made) }
+    // The same request of another key.
+    pub fn with_key<U>(&self, key: U) -> Request<U>
+        ensures { result ≡ request_with self.now key }
     {
         match self {
-            Request::Lookup(key) => Ok(Request::Lookup(make(key)?)),
-            Request::Add(key) => Ok(Request::Add(make(key)?)),
-            Request::Remove(key) => Ok(Request::Remove(make(key)?)),
+            Request::Lookup(_) => Request::Lookup(key),
+            Request::Add(_) => Request::Add(key),
+            Request::Remove(_) => Request::Remove(key),
         }
     }
 }
@@ -53,18 +48,26 @@ pub enum PageRecord<T> {
     Request(Request<T>),
 }
 
-impl<T> PageRecord<T> {
-    // The record with what is made of its key, where that can be made.
-    pub fn try_map<U, F: FnOnce(T) -> Result<U, Denial>>(
-        self,
-        make: F,
-    ) -> Result<PageRecord<U>, Denial>
-        requires { F.pre make (record_key self) }
-        ensures { (made : Result U Denial) × F.post make (record_key self) made × (result ≡ meant (record_with self) made) }
+impl<'a> PageRecord<&'a [u8]> {
+    // The spelling of the key.
+    pub fn spelling(self) -> &'a [u8]
+        ensures { result.now ≡ (entry_of self.entry).spelling }
     {
         match self {
-            PageRecord::First(key) => Ok(PageRecord::First(make(key)?)),
-            PageRecord::Request(request) => Ok(PageRecord::Request(request.try_map(make)?)),
+            PageRecord::First(spelling) => spelling,
+            PageRecord::Request(request) => request.spelling(),
+        }
+    }
+}
+
+impl<T> PageRecord<T> {
+    // The same record of another key.
+    pub fn with_key<U>(&self, key: U) -> PageRecord<U>
+        ensures { result ≡ record_with self.now key }
+    {
+        match self {
+            PageRecord::First(_) => PageRecord::First(key),
+            PageRecord::Request(request) => PageRecord::Request(request.with_key(key)),
         }
     }
 }

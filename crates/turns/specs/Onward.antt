@@ -20,10 +20,10 @@ use Rattle.logs.specs.Records.{with}
 use Rattle.logs.specs.Pages.{Entry}
 use Rattle.logs.specs.Items.{Asked, Item, lookup, add, remove, first, request, item, page_items_from}
 use Rattle.logs.specs.Plans.{plan_move, plan_moves}
-use Rattle.turns.specs.declared.entry.Asked.{Asked as ReadRequest}
-use Rattle.turns.specs.declared.entry.Asked.TheVariants.{Lookup, Add, Remove}
-use Rattle.turns.specs.declared.entry.Entry.{Entry as ReadRecord}
-use Rattle.turns.specs.declared.entry.Entry.TheVariants.{First, Request}
+use Rattle.logs.specs.declared.pages.Request.{Request as ReadRequest}
+use Rattle.logs.specs.declared.pages.Request.TheVariants.{Lookup, Add, Remove}
+use Rattle.logs.specs.declared.pages.PageRecord.{PageRecord as ReadRecord}
+use Rattle.logs.specs.declared.pages.PageRecord.TheVariants.{First, Request}
 use Rattle.acceptance.specs.Scripts.{Script, fault_on, calling, requesting, asking, ending, serving, loading}
 use Rattle.acceptance.specs.Judgement.{goal_log, number_in, played}
 
@@ -71,14 +71,6 @@ module _ {K : Type 0} (key : KeyMeaning K) where
   abbrev pub item_of : ReadRecord K → Item key.Value
   item_of (First k) = first (key.value k)
   item_of (Request asked) = request (asked_of asked)
-
-  -- a record by the value that its spelling has
-  abbrev pub item_by : Entry → Option key.Value → Result (Item key.Value) Denial
-  item_by entry (Some v) = Ok (item entry.asks v)
-  item_by entry None = Err Layout
-
-  abbrev pub read_item : Entry → Result (Item key.Value) Denial
-  read_item entry = item_by entry (key.reading entry.spelling)
 
   -- what was left of a page, by what was read next and what is left behind it
   abbrev pub read_by : Result (Option (ReadRecord K)) Denial → List (Item key.Value) × Option Denial → List (Item key.Value) × Option Denial

@@ -10,10 +10,7 @@ use logs::{Fault, Log};
 pub fn said_of<T>(log: Log, at: usize, answer: Result<T, Denial>) -> Result<T, Fault>
     ensures { result ≡ said_of log at answer }
 {
-    match answer {
-        Ok(given) => Ok(given),
-        Err(denial) => Err(Fault { denial, log, at }),
-    }
+    answer.map_err(|denial| Fault { denial, log, at })
 }
 
 // The log that a request's denial is held against.
@@ -30,13 +27,12 @@ fn goal_log(denial: Denial) -> Log
 pub fn said_of_request(answer: Result<(), Denial>, page: usize, plan: usize) -> Result<(), Fault>
     ensures { result ≡ said_of_request page plan answer }
 {
-    let Err(denial) = answer else {
-        return Ok(());
-    };
-    let log = goal_log(denial);
-    let at = match log {
-        Log::Page => page,
-        Log::Plan => plan,
-    };
-    Err(Fault { denial, log, at })
+    answer.map_err(|denial| {
+        let log = goal_log(denial);
+        let at = match log {
+            Log::Page => page,
+            Log::Plan => plan,
+        };
+        Fault { denial, log, at }
+    })
 }

@@ -6,5 +6,5 @@ pub mod entry;
 pub mod plays;
 
 pub use blame::{said_of, said_of_request};
-pub use entry::{Asked, Entry, next_entry};
+pub use entry::next_entry;
 pub use plays::{make_request, serve};

@@ -1,21 +1,20 @@
 // A request, as page and plan give it: the plan's exchanges, and then the request with its goal.
 ghost use Rattle.std.specs.Prelude.{◌≡◌};
 ghost use Rattle.acceptance.specs.Scripts.{Script, requesting};
-ghost use Rattle.turns.specs.Onward.{asked_of, taken_move, Taken, resuming, Continues, UpToGoal, Serves};
+ghost use Rattle.turns.specs.Onward.{asked_of, Taken, resuming, Continues, UpToGoal, Serves};
 
 use super::blame::{said_of, said_of_request};
-use super::entry::Asked;
 use bench::Running;
 use keys::{Denial, Key};
 use lines::{Line, Orderly};
-use logs::{Fault, Log, Move, PlanReader};
+use logs::{Fault, Log, Move, PlanReader, Request};
 
 // Makes a request with its goal; the numbers are those of its record in the page and of its goal's in the plan.
 pub fn make_request<K: Key, H: Orderly<K>, R: Orderly<K>>(
     bench: &mut Running,
     house: &mut H,
     rival: &mut R,
-    asked: Asked<K>,
+    asked: Request<K>,
     goal: usize,
     page: usize,
     plan: usize,
@@ -24,41 +23,26 @@ pub fn make_request<K: Key, H: Orderly<K>, R: Orderly<K>>(
     ensures { (rest : Script K.Key.Value) → Continues K.Key H.Line R.Line house.old rival.old bench.old.ledger (requesting (asked_of K.Key asked) goal page plan rest) house.new rival.new bench.new.ledger (resuming result (λ _. rest)) }
 {
     match asked {
-        Asked::Lookup(key) => said_of_request(bench.lookup(house, rival, key, goal), page, plan),
-        Asked::Add(key) => said_of_request(bench.add(house, rival, key, goal), page, plan),
-        Asked::Remove(key) => {
+        Request::Lookup(key) => said_of_request(bench.lookup(house, rival, key, goal), page, plan),
+        Request::Add(key) => said_of_request(bench.add(house, rival, key, goal), page, plan),
+        Request::Remove(key) => {
             if goal != 0 {
-                return Err(Fault {
-                    denial: Denial::Misfit,
-                    log: Log::Plan,
-                    at: plan,
-                });
+                return said_of(Log::Plan, plan, Err(Denial::Misfit));
             }
             said_of(Log::Page, page, bench.remove(house, rival, key))
         }
     }
 }
 
-// The move that a plan gives next, at a record; where it has ended, the goal is missing.
-fn taken_move(at: usize, next: Result<Option<Move>, Denial>) -> Result<Move, Fault>
-    ensures { result ≡ taken_move at next }
-{
-    let Some(taken) = said_of(Log::Plan, at, next)? else {
-        return Err(Fault {
-            denial: Denial::Misfit,
-            log: Log::Plan,
-            at,
-        });
-    };
-    Ok(taken)
-}
-
-// The next move of a plan.
+// The next move of a plan; where it has ended, the goal is missing.
 fn next_move(plan: &mut PlanReader<'_>) -> Result<Move, Fault>
     ensures { Taken result plan.old plan.new }
 {
     let at = plan.passed() + 1;
-    taken_move(at, plan.next())
+    let Some(taken) = said_of(Log::Plan, at, plan.next())? else {
+        return said_of(Log::Plan, at, Err(Denial::Misfit));
+    };
+    Ok(taken)
 }
 
 // Makes the exchanges that the plan has before its next goal, and gives that goal.
@@ -87,7 +71,7 @@ pub fn serve<K: Key, H: Orderly<K>, R: Orderly<K>>(
     bench: &mut Running,
     house: &mut H,
     rival: &mut R,
-    asked: Asked<K>,
+    asked: Request<K>,
     page: usize,
     plan: &mut PlanReader<'_>,
 ) -> Result<(), Fault>
