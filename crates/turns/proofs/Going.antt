@@ -20,16 +20,7 @@ held spelled (Err denial) = Err (blamed spelled denial)
 abbrev pub spelled_at : {V : Type 0} → Call V → ℕ → ℕ → Spelled V
 spelled_at call page plan = record { call = call; page = page; plan = plan }
 
--- a lookup's and an addition's answers are held so
-pub held-lookup : {V : Type 0} (v : V) (goal page plan : ℕ) (answer : Result (Unit {0}) Denial) → said_of_request page plan answer ≡ held (spelled_at (lookup v goal) page plan) answer
-held-lookup v goal page plan (Ok done) = refl
-held-lookup v goal page plan (Err denial) = refl
-
-pub held-add : {V : Type 0} (v : V) (goal page plan : ℕ) (answer : Result (Unit {0}) Denial) → said_of_request page plan answer ≡ held (spelled_at (add v goal) page plan) answer
-held-add v goal page plan (Ok done) = refl
-held-add v goal page plan (Err denial) = refl
-
--- and so are those of the calls that are held against one log
+-- the answers of calls that are held against one log are held so
 pub held-load : {V : Type 0} (v : V) (page plan : ℕ) (answer : Result (Unit {0}) Denial) → said_of Page page answer ≡ held (spelled_at (load v) page plan) answer
 held-load v page plan (Ok done) = refl
 held-load v page plan (Err denial) = refl

@@ -41,20 +41,10 @@ module _ {K : Type 0} (key : KeyMeaning K) where
   item-with (Asked (Add s)) k = refl
   item-with (Asked (Remove s)) k = refl
 
-  -- a record whose spelling has a value, and one whose spelling has none
+  -- a record whose spelling has a value
   pub valued-ok : (given : PageRecord (Bor (List ℕ))) (o : Option key.Value) (k : K) (behind : List (Item key.Value) × Option Denial)
       → Ok (key.value k) ≡ read_as o → valued_with (entry_of given) o behind ≡ with (item_of key (record_with given k)) behind
   valued-ok given (Some v) k behind e =
       let same : v ≡ key.value k = cc in
       ap (λ v. with (item (entry_of given).asks v) behind) same ∙ ap (λ i. with i behind) (sym (item-with given k))
   valued-ok given None k behind e = let z : ⊥ = cc in absurd z
-
-  pub valued-err : (entry : Entry) (o : Option key.Value) (denial : Denial) (behind : List (Item key.Value) × Option Denial)
-      → Err denial ≡ read_as o → valued_with entry o behind ≡ ([], Some denial)
-  valued-err entry (Some v) denial behind e = let z : ⊥ = cc in absurd z
-  valued-err entry None denial behind e = cc
-
-  -- a page that is broken where it is read
-  pub broken-read : (page page' : PageReader) (denial : Denial) {result : Result (Option (PageRecord K)) Denial} → result ≡ Err denial → page_left key page ≡ ([], Some denial)
-      → (page_left key page ≡ read_by key result (page_left key page')) × Advanced result page page'
-  broken-read page page' denial e left = (left ∙ ap (λ r. read_by key r (page_left key page')) (sym e), subst (λ r. Advanced r page page') (sym e) tt)

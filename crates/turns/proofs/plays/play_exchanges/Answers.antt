@@ -20,12 +20,6 @@ returns-in-Goal g c = λ asked page onward.
     let was = c.in_ok-goal.was ∙ ap Ok c.in-Goal.is in
     so g.K.Key g.H.Line g.R.Line (c.loop-goal.invariant.2 asked page onward) (next ∙ ap (λ r. resuming r (λ move. moving asked page onward move (passed_of plan'.cursor) (plan_left plan'))) was)
 
-pub exchange-done-requires : goal.exchange-done-requires
-exchange-done-requires g c = (c.loop-goal.invariant.0, c.loop-goal.invariant.1)
-
-pub loop-goal-smaller : goal.loop-goal-smaller
-loop-goal-smaller g c = taken-fewer c.loop-goal.plan c.next_move.new.plan c.next_move.result _ c.next_move.ensures c.in_ok-goal.was
-
 pub loop-goal-preserved : goal.loop-goal-preserved
 loop-goal-preserved g c =
     let plan' = c.next_move.new.plan in
