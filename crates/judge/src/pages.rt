@@ -1,12 +1,20 @@
 // The page's side: its first keys, and its requests one by one.
 ghost use Rattle.std.specs.Prelude.{◌≡◌};
-ghost use Rattle.turns.specs.Onward.{ReadOn, Loads, ServesAll};
+ghost use Rattle.turns.specs.Onward.{EntryTaken, ReadOn, Loads, ServesAll};
 
 use bench::{Loading, Running};
 use keys::{Denial, Key};
 use lines::{Line, Orderly};
 use logs::{Fault, Log, PageReader, PageRecord, PlanReader, Request};
 use turns::{next_entry, said_of, serve};
+
+// The next record of a page, with its key read, or none at the end.
+fn next_record<K: Key>(page: &mut PageReader<'_>) -> Result<Option<PageRecord<K>>, Fault>
+    ensures { EntryTaken K.Key result page.old page.new }
+{
+    let at = page.passed() + 1;
+    said_of(Log::Page, at, next_entry::<K>(page))
+}
 
 // Loads the first keys of a page, and gives its first request, or none where it has none.
 pub(crate) fn load_all<K: Key, H: Orderly<K>, R: Orderly<K>>(
@@ -19,15 +27,14 @@ pub(crate) fn load_all<K: Key, H: Orderly<K>, R: Orderly<K>>(
     ensures { Loads K.Key H.Line R.Line house.old rival.old bench.old.ledger page.old result house.new rival.new bench.new.ledger page.new }
 {
     loop {
-        let at = page.passed() + 1;
-        let Some(entry) = said_of(Log::Page, at, next_entry::<K>(page))? else {
+        let Some(entry) = next_record::<K>(page)? else {
             return Ok(None);
         };
         match entry {
             PageRecord::Request(asked) => return Ok(Some(asked)),
             PageRecord::First(key) => {
                 let loaded = bench.load(house, rival, key);
-                said_of(Log::Page, at, loaded)?;
+                said_of(Log::Page, page.passed(), loaded)?;
             }
         }
     }
@@ -37,11 +44,10 @@ pub(crate) fn load_all<K: Key, H: Orderly<K>, R: Orderly<K>>(
 fn next_request<K: Key>(page: &mut PageReader<'_>) -> Result<Option<Request<K>>, Fault>
     ensures { ReadOn K.Key result page.old page.new }
 {
-    let at = page.passed() + 1;
-    match said_of(Log::Page, at, next_entry::<K>(page))? {
+    match next_record::<K>(page)? {
         None => Ok(None),
         Some(PageRecord::Request(asked)) => Ok(Some(asked)),
-        Some(PageRecord::First(_)) => said_of(Log::Page, at, Err(Denial::Layout)),
+        Some(PageRecord::First(_)) => said_of(Log::Page, page.passed(), Err(Denial::Layout)),
     }
 }
 

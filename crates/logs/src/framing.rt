@@ -62,7 +62,7 @@ fn next_frame(bytes: &[u8]) -> Result<Option<Frame<'_>>, Denial>
 // are few, and the number of the next record fits too.
 #[derive(Clone, Copy)]
 pub(crate) struct Cursor<'a> {
-    rest: &'a [u8],
+    pub(crate) rest: &'a [u8],
     passed: usize,
     ghost few: { passed + length rest.now + 1 < 2 ^ 64 },
 }

@@ -1,5 +1,5 @@
 -- How playing a script goes on: call by call, and from one stretch to the next.
-use Rattle.std.proofs.Common.{◌≡◌, ℕ, [], None, Ok, Err, Result, sym, refl, ap, ◌∙◌, subst}
+use Rattle.std.proofs.Common.{◌≡◌, ℕ, [], Some, None, Ok, Err, Result, sym, refl, ap, ◌∙◌, subst}
 use Rattle.keys.specs.declared.denial.Denial.{Denial}
 use Rattle.keys.specs.declared.key.Key.{Ghosts as KeyMeaning}
 use Rattle.lines.specs.declared.Line.{Ghosts as LineMeaning}
@@ -79,8 +79,11 @@ module _ {K H R : Type 0} (key : KeyMeaning K) (house : LineMeaning H K) (rival 
   so {h} {h'} {r} {r'} {ledger} {ledger'} {script} a e = subst (Continues key house rival h r ledger script h' r' ledger') e a
 
 -- a fault ends a script whatever was to come
+pub stopping : {V T : Type 0} (fault : Fault) {result : Result T Fault} (onward : T → Script V) → result ≡ Err fault → record { calls = []; fault = Some fault } ≡ resuming result onward
+stopping fault onward e = ap (λ r. resuming r onward) (sym e)
+
 pub faulted : {V S T : Type 0} (fault : Fault) {first : Result S Fault} {second : Result T Fault} (onward : S → Script V) (onward' : T → Script V) → first ≡ Err fault → second ≡ Err fault → resuming first onward ≡ resuming second onward'
-faulted fault onward onward' a b = ap (λ r. resuming r onward) a ∙ ap (λ r. resuming r onward') (sym b)
+faulted fault onward onward' a b = ap (λ r. resuming r onward) a ∙ stopping fault onward' b
 
 -- a script of no calls
 abbrev pub nothing : {V : Type 0} → Script V

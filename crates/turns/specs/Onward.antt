@@ -47,13 +47,6 @@ taken_move at (Err denial) = Err (fault_on Plan at denial)
 abbrev pub left_over : ℕ → List ℕ → Result (Unit {0}) Fault
 left_over at bytes = cond (length bytes == 0) (Ok tt) (Err (fault_on Plan at Misfit))
 
--- the request that a page gives next, at a record; no first key may follow a request
-abbrev pub request_by : {K : Type 0} → ℕ → Result (Option (ReadRecord K)) Denial → Result (Option (ReadRequest K)) Fault
-request_by at (Ok None) = Ok None
-request_by at (Ok (Some (First k))) = Err (fault_on Page at Layout)
-request_by at (Ok (Some (Request asked))) = Ok (Some asked)
-request_by at (Err denial) = Err (fault_on Page at denial)
-
 -- what a reader has still to give
 unfoldable pub plan_left : PlanReader → List Move × Option Denial
 plan_left plan = plan_moves (left_of plan.cursor)
@@ -124,6 +117,13 @@ module _ {K : Type 0} (key : KeyMeaning K) where
 
   abbrev pub awaiting_from : Option (ReadRequest K) → PageReader → ℕ → List Move × Option Denial → Script key.Value
   awaiting_from next page read plan = awaiting (next_of next) (passed_of page.cursor) (page_left key page) read plan
+
+  -- a reader of a page was asked for its next record, and this was made of its answer
+  pub record EntryTaken (result : Result (Option (ReadRecord K)) Fault) (page page' : PageReader) : Type 0 where
+    pub answer : Result (Option (ReadRecord K)) Denial
+    pub read : page_left key page ≡ read_by key answer (page_left key page')
+    pub advanced : Advanced answer page page'
+    pub takes : result ≡ said_of Page (passed_of page.cursor + 1) answer
 
   -- a page was read on: whatever the plan, its next request or its end comes next
   pub record ReadOn (result : Result (Option (ReadRequest K)) Fault) (page page' : PageReader) : Type 0 where
