@@ -37,10 +37,10 @@ record Plays {V : Type 0} (script : Script V) (calls : List (Call V)) : Type 0 w
 
 -- two contradictions
 no-fault : {T A : Type 0} (x : A) → ◌≡◌ {A = Option A} (Some x) None → T
-no-fault x e = let z : ◌≡◌ {A = ℕ} 0 1 = cc in absurd (omega arith)
+no-fault x e = let z : ⊥ = cc in absurd z
 
 no-denial : {T E : Type 0} (x : E) → ◌≡◌ {A = Result (Unit {0}) E} (Err x) (Ok tt) → T
-no-denial x e = let z : ◌≡◌ {A = ℕ} 0 1 = cc in absurd (omega arith)
+no-denial x e = let z : ⊥ = cc in absurd z
 
 pair : {A B : Type 0} {p : A × B} {a : A} {b : B} → p.0 ≡ a → p.1 ≡ b → p ≡ (a, b)
 pair {p = p} {a = a} e f = ap (λ x. (x, p.1)) e ∙ ap (λ y. (a, y)) f

@@ -1,7 +1,6 @@
 -- A page's records, one at a time, as its reader gives them.
-use Rattle.std.proofs.Common.{◌≡◌, ℕ, suc, ◌+◌, ◌<◌, ◌≤◌, List, length, Some, None, Ok, Err, Option, Result, sym, refl, ap, ◌∙◌, add-one, arith}
+use Rattle.std.proofs.Common.{◌≡◌, ℕ, suc, ◌+◌, List, Some, None, Ok, Err, Option, Result, sym, refl, ap, ◌∙◌, add-one, arith}
 use Rattle.keys.specs.declared.denial.Denial.{Denial}
-use Rattle.keys.specs.declared.denial.Denial.TheVariants.{Layout}
 use Rattle.keys.specs.declared.key.Key.{Ghosts as KeyMeaning}
 use Rattle.lines.specs.declared.Line.{Ghosts as LineMeaning}
 use Rattle.reckoning.specs.Reckoning.{load, start}
@@ -11,12 +10,11 @@ use Rattle.logs.specs.declared.fault.Log.TheVariants.{Page}
 use Rattle.logs.specs.declared.fault.Fault.{Fault}
 use Rattle.logs.specs.declared.pages.PageReader.{PageReader}
 use Rattle.logs.specs.declared.plans.Move.{Move}
-use Rattle.logs.specs.Cursors.{left_of, passed_of}
+use Rattle.logs.specs.Cursors.{passed_of}
 use Rattle.logs.specs.Items.{Item}
-use Rattle.logs.specs.declared.pages.Request.{Request as ReadRequest}
 use Rattle.logs.specs.declared.pages.PageRecord.{PageRecord as ReadRecord}
 use Rattle.logs.specs.declared.pages.PageRecord.TheVariants.{First, Request}
-use Rattle.acceptance.specs.Scripts.{Script, faulty, calling, serving, loading}
+use Rattle.acceptance.specs.Scripts.{Script, faulty, calling, loading}
 use Rattle.turns.specs.Onward.{said_of, page_left, asked_of, read_by, Advanced, resuming, awaiting, loading_from, awaiting_from, EntryTaken, Continues}
 use Rattle.turns.proofs.Going.{held-load, called_on, stays, goes_on}
 

@@ -3,14 +3,14 @@ use Rattle.std.proofs.Common.{◌≡◌, ℕ, [], Some, None, Ok, Err, Result, s
 use Rattle.keys.specs.declared.denial.Denial.{Denial}
 use Rattle.keys.specs.declared.key.Key.{Ghosts as KeyMeaning}
 use Rattle.lines.specs.declared.Line.{Ghosts as LineMeaning}
-use Rattle.reckoning.specs.Reckoning.{Call, load, lookup, add, exchange, Limits, State}
+use Rattle.reckoning.specs.Reckoning.{Call, load, exchange, Limits, State}
 use Rattle.bench.specs.Benches.{limits_of, bench_of, Called}
 use Rattle.bench.specs.declared.ledger.Ledger.{Ledger}
 use Rattle.logs.specs.declared.fault.Log.TheVariants.{Page, Plan}
 use Rattle.logs.specs.declared.fault.Fault.{Fault}
 use Rattle.acceptance.specs.Scripts.{Spelled, Script, calling}
 use Rattle.acceptance.specs.Judgement.{blamed, settling, played}
-use Rattle.turns.specs.Onward.{said_of, said_of_request, resuming, Continues}
+use Rattle.turns.specs.Onward.{said_of, resuming, Continues}
 
 -- an answer, with its denial held against what the call is read from
 abbrev pub held : {V : Type 0} → Spelled V → Result (Unit {0}) Denial → Result (Unit {0}) Fault

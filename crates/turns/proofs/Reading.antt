@@ -1,5 +1,5 @@
 -- What is left of a log, by what a reader gave.
-use Rattle.std.proofs.Common.{◌≡◌, ℕ, List, [], Some, None, Ok, Err, Option, Result, sym, refl, ap, ◌∙◌, subst, arith}
+use Rattle.std.proofs.Common.{◌≡◌, ℕ, List, Some, None, Ok, Option, Result, sym, refl, ap, ◌∙◌}
 use denote.Ref.{Bor}
 use Rattle.keys.specs.Spelling.{read_as}
 use Rattle.keys.specs.declared.denial.Denial.{Denial}
@@ -13,12 +13,12 @@ use Rattle.logs.specs.declared.plans.Move.{Move}
 use Rattle.logs.specs.Framing.{read_next, valued}
 use Rattle.logs.specs.Cursors.{left_of}
 use Rattle.logs.specs.Records.{with}
-use Rattle.logs.specs.Pages.{Entry, entry_of, record_with, page_entry, requested_by}
+use Rattle.logs.specs.Pages.{entry_of, record_with, page_entry, requested_by}
 use Rattle.logs.specs.Plans.{plan_move}
 use Rattle.logs.specs.Items.{Item, item, valued_with, page_by}
 use Rattle.logs.specs.Plans.{plan_by}
 use Rattle.logs.proofs.Whole.{page-next, plan-next}
-use Rattle.turns.specs.Onward.{plan_left, page_left, item_of, read_by, Advanced}
+use Rattle.turns.specs.Onward.{plan_left, page_left, item_of}
 
 pub plan-read : (plan plan' : PlanReader) (answer : Result (Option Move) Denial)
     → read_next plan_move (left_of plan.cursor) ≡ (answer, left_of plan'.cursor) → plan_left plan ≡ plan_by answer (plan_left plan')

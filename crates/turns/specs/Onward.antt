@@ -2,7 +2,7 @@
 -- Only contracts of inner functions cite these.
 use Rattle.std.specs.Prelude.{◌≡◌, ℕ, ◌+◌, ◌<◌, ◌≤◌, cond, List, [], length, Some, None, Ok, Err, Option, Result, ◌==◌}
 use Rattle.keys.specs.declared.denial.Denial.{Denial}
-use Rattle.keys.specs.declared.denial.Denial.TheVariants.{Layout, Misfit}
+use Rattle.keys.specs.declared.denial.Denial.TheVariants.{Misfit}
 use Rattle.keys.specs.declared.key.Key.{Ghosts as KeyMeaning}
 use Rattle.lines.specs.declared.Line.{Ghosts as LineMeaning}
 use Rattle.reckoning.specs.Reckoning.{start}
@@ -17,8 +17,7 @@ use Rattle.logs.specs.declared.plans.Move.{Move}
 use Rattle.logs.specs.Framing.{read_next, gained}
 use Rattle.logs.specs.Cursors.{left_of, passed_of}
 use Rattle.logs.specs.Records.{with}
-use Rattle.logs.specs.Pages.{Entry}
-use Rattle.logs.specs.Items.{Asked, Item, lookup, add, remove, first, request, item, page_items_from}
+use Rattle.logs.specs.Items.{Asked, Item, lookup, add, remove, first, request, page_items_from}
 use Rattle.logs.specs.Plans.{plan_move, plan_moves}
 use Rattle.logs.specs.declared.pages.Request.{Request as ReadRequest}
 use Rattle.logs.specs.declared.pages.Request.TheVariants.{Lookup, Add, Remove}

@@ -1,6 +1,6 @@
 // Denials as faults: which log and which record they are held against.
 ghost use Rattle.std.specs.Prelude.{◌≡◌};
-ghost use Rattle.acceptance.specs.Judgement.{goal_log};
+ghost use Rattle.acceptance.specs.Judgement.{goal_log, number_in};
 ghost use Rattle.turns.specs.Onward.{said_of, said_of_request};
 
 use keys::Denial;
@@ -23,16 +23,32 @@ fn goal_log(denial: Denial) -> Log
     }
 }
 
+// The numbers of two records, of one in the page and of one in the plan.
+#[derive(Clone, Copy)]
+pub struct Records {
+    pub page: usize,
+    pub plan: usize,
+}
+
+impl Records {
+    // The number of the one in a log.
+    pub fn number_in(self, log: Log) -> usize
+        ensures { result ≡ number_in log self.page self.plan }
+    {
+        match log {
+            Log::Page => self.page,
+            Log::Plan => self.plan,
+        }
+    }
+}
+
 // A request's answer, whose denial is said of its record in the page or of its goal in the plan.
-pub fn said_of_request(answer: Result<(), Denial>, page: usize, plan: usize) -> Result<(), Fault>
-    ensures { result ≡ said_of_request page plan answer }
+pub fn said_of_request(answer: Result<(), Denial>, records: Records) -> Result<(), Fault>
+    ensures { result ≡ said_of_request records.page records.plan answer }
 {
     answer.map_err(|denial| {
         let log = goal_log(denial);
-        let at = match log {
-            Log::Page => page,
-            Log::Plan => plan,
-        };
+        let at = records.number_in(log);
         Fault { denial, log, at }
     })
 }

@@ -3,33 +3,32 @@ ghost use Rattle.std.specs.Prelude.{◌≡◌};
 ghost use Rattle.acceptance.specs.Scripts.{Script, requesting};
 ghost use Rattle.turns.specs.Onward.{asked_of, Taken, resuming, Continues, UpToGoal, Serves};
 
-use super::blame::{said_of, said_of_request};
+use super::blame::{Records, said_of, said_of_request};
 use bench::Running;
 use keys::{Denial, Key};
 use lines::{Line, Orderly};
 use logs::{Fault, Log, Move, PlanReader, Request};
 
-// Makes a request with its goal; the numbers are those of its record in the page and of its goal's in the plan.
+// Makes a request with its goal; the records are its own in the page and its goal's in the plan.
 pub fn make_request<K: Key, H: Orderly<K>, R: Orderly<K>>(
     bench: &mut Running,
     house: &mut H,
     rival: &mut R,
     asked: Request<K>,
     goal: usize,
-    page: usize,
-    plan: usize,
+    records: Records,
 ) -> Result<(), Fault>
     requires { (H.Line.sound house.old) × (R.Line.sound rival.old) }
-    ensures { (rest : Script K.Key.Value) → Continues K.Key H.Line R.Line house.old rival.old bench.old.ledger (requesting (asked_of K.Key asked) goal page plan rest) house.new rival.new bench.new.ledger (resuming result (λ _. rest)) }
+    ensures { (rest : Script K.Key.Value) → Continues K.Key H.Line R.Line house.old rival.old bench.old.ledger (requesting (asked_of K.Key asked) goal records.page records.plan rest) house.new rival.new bench.new.ledger (resuming result (λ _. rest)) }
 {
     match asked {
-        Request::Lookup(key) => said_of_request(bench.lookup(house, rival, key, goal), page, plan),
-        Request::Add(key) => said_of_request(bench.add(house, rival, key, goal), page, plan),
+        Request::Lookup(key) => said_of_request(bench.lookup(house, rival, key, goal), records),
+        Request::Add(key) => said_of_request(bench.add(house, rival, key, goal), records),
         Request::Remove(key) => {
             if goal != 0 {
-                return said_of(Log::Plan, plan, Err(Denial::Misfit));
+                return said_of(Log::Plan, records.plan, Err(Denial::Misfit));
             }
-            said_of(Log::Page, page, bench.remove(house, rival, key))
+            said_of(Log::Page, records.page, bench.remove(house, rival, key))
         }
     }
 }
@@ -79,5 +78,9 @@ pub fn serve<K: Key, H: Orderly<K>, R: Orderly<K>>(
     ensures { Serves K.Key H.Line R.Line (asked_of K.Key asked) page house.old rival.old bench.old.ledger plan.old result house.new rival.new bench.new.ledger plan.new }
 {
     let goal = play_exchanges(bench, house, rival, plan)?;
-    make_request(bench, house, rival, asked, goal, page, plan.passed())
+    let records = Records {
+        page,
+        plan: plan.passed(),
+    };
+    make_request(bench, house, rival, asked, goal, records)
 }

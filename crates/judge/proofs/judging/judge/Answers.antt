@@ -1,16 +1,12 @@
-use Rattle.std.proofs.Common.{◌≡◌, false, Ok, Err, sym, ap, ◌∙◌}
+use Rattle.std.proofs.Common.{◌≡◌, false, Err, sym, ap, ◌∙◌}
 use Rattle.std.proofs.lemmas.Result.{err_from_is_err_and, IfOk-at_ok}
 use Rattle.keys.specs.Spelling.{meant}
 use Rattle.logs.specs.declared.fault.Log.TheVariants.{Page, Plan}
 use Rattle.logs.specs.declared.pages.PageReader.{PageReader}
 use Rattle.logs.specs.declared.plans.PlanReader.{PlanReader}
-use Rattle.logs.specs.Framing.{versioned}
 use Rattle.logs.specs.Cursors.{left_of, passed_of}
-use Rattle.reckoning.specs.Reckoning.{empty}
-use Rattle.bench.specs.Benches.{limits_of}
-use Rattle.acceptance.specs.Scripts.{fault_on, headed}
-use Rattle.acceptance.specs.Judgement.{played}
-use Rattle.judge.proofs.Verdict.{said-err, said_ok, bench-opened, bench-denied, script-read, judged-header, judged-full, judged-played}
+use Rattle.acceptance.specs.Scripts.{fault_on}
+use Rattle.judge.proofs.Verdict.{said-err, said_ok, bench-opened, bench-denied, script-read, judged-full, judged-played}
 use Rattle.judge.proofs.judging.judge.Goals as goal
 
 pub returns-in_err-bench : goal.returns-in_err-bench

@@ -1,6 +1,5 @@
 use Rattle.std.proofs.Common.{Some, Ok, Err, sym, ap, ◌∙◌}
 use Rattle.std.proofs.lemmas.Result.{err_from_is_err_and}
-use Rattle.turns.specs.Onward.{resuming, loading_from}
 use Rattle.turns.proofs.Going.{goes_on, so, stopping}
 use Rattle.judge.proofs.Paging.{entry-loaded, load-made}
 use Rattle.judge.proofs.pages.load_all.Goals as goal

@@ -33,5 +33,5 @@ returns-clause-advanced g c =
     let was = c.in_ok-given.was ∙ ap Ok c.in-Some.is in (
       (let e = ap gained was in omega (arith, c.next.ensures.passed)),
       read-fewer (page_entry g.K.Key.reading c.args.page.now.requested) (left_of c.args.page.now.cursor) (left_of c.next.new.self.cursor) (entry_of c.in-Some.given)
-      (c.next.ensures.read ∙ ap (λ a. (valued entry_of a, left_of c.next.new.self.cursor)) was),
+          (c.next.ensures.read ∙ ap (λ a. (valued entry_of a, left_of c.next.new.self.cursor)) was),
     )
