@@ -1,5 +1,5 @@
 -- The judge accepts just the accepted plans: what a script without a fault was read from, and what a run without a denial reckons.
-use Rattle.std.proofs.Common.{◌≡◌, ℕ, suc, Bool, true, List, [], ◌∷◌, ◌++◌, map, Some, None, Ok, Err, Option, Result, sym, refl, ap, ◌∙◌, subst, inl, inr, append_assoc, arith}
+use Rattle.std.proofs.Common.{◌≡◌, ℕ, suc, Bool, true, List, [], ◌∷◌, ◌++◌, map, Some, None, Ok, Err, Option, Result, sym, refl, ap, ◌∙◌, subst, inl, inr, append_assoc}
 use Rattle.std.proofs.lemmas.Bool.{cases_Bool, cond-true, cond-false}
 use Rattle.keys.specs.declared.denial.Denial.{Denial}
 use Rattle.reckoning.specs.Reckoning.{Sums, State, Limits, Call, load, start, exchange, close, empty, step, reckoned_from, reckoned}

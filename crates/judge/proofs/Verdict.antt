@@ -60,14 +60,7 @@ module _ {K H R : Type 0} (key : KeyMeaning K) (house : LineMeaning H K) (rival 
         none_below = λ limits sums plays. accepted-floor key.equal key.reading key.letter decides limits page plan sums plays;
       }
 
-  -- a fault before anything was done
-  pub judged-header : (ledger : Ledger) {answer : Result Ledger Fault} (fault : Fault) → house.sound h → rival.sound r → both_empty (house.keys h) (rival.keys r) ≡ true → bench_of key house rival h r ledger ≡ empty
-      → judged key.equal key.reading key.letter (limits_of key house rival h r) page plan ≡ (Err fault, empty) → answer ≡ Err fault → Judged key house rival page plan h r answer h r
-  judged-header ledger {answer} fault sh sr void fresh e a =
-      judged-so h r answer (Err fault) empty sh sr refl void e
-      (λ i. (sym (ap numbers_of a) i, (sym (ap (λ (s : State key.Value). s.house) fresh) i, sym (ap (λ (s : State key.Value). s.rival) fresh) i)))
-
-  -- and on lines that hold keys
+  -- on lines that hold keys nothing is done
   pub judged-full : {answer : Result Ledger Fault} → house.sound h → rival.sound r → both_empty (house.keys h) (rival.keys r) ≡ false → answer ≡ Err (fault_on Page 0 NotEmpty) → Judged key house rival page plan h r answer h r
   judged-full {answer} sh sr full a = record {
     house_sound = sh;
