@@ -1,5 +1,5 @@
 -- The judge accepts just the accepted plans: what a script without a fault was read from, and what a run without a denial reckons.
-use Rattle.std.proofs.Common.{◌≡◌, ℕ, suc, Bool, true, List, [], ◌∷◌, ◌++◌, map, Some, None, Ok, Err, Option, Result, sym, refl, ap, ◌∙◌, subst, inl, inr, append_assoc, arith}
+use Rattle.std.proofs.Common.{◌≡◌, ℕ, suc, Bool, true, List, [], ◌∷◌, ◌++◌, map, Some, None, Ok, Err, Option, Result, sym, refl, ap, ◌∙◌, subst, inl, inr, append_assoc}
 use Rattle.std.proofs.lemmas.Bool.{cases_Bool, cond-true, cond-false}
 use Rattle.keys.specs.declared.denial.Denial.{Denial}
 use Rattle.reckoning.specs.Reckoning.{Sums, State, Limits, Call, load, start, exchange, close, empty, step, reckoned_from, reckoned}
@@ -37,10 +37,10 @@ record Plays {V : Type 0} (script : Script V) (calls : List (Call V)) : Type 0 w
 
 -- two contradictions
 no-fault : {T A : Type 0} (x : A) → ◌≡◌ {A = Option A} (Some x) None → T
-no-fault x e = let z : ◌≡◌ {A = ℕ} 0 1 = cc in absurd (omega arith)
+no-fault x e = let z : ⊥ = cc in absurd z
 
 no-denial : {T E : Type 0} (x : E) → ◌≡◌ {A = Result (Unit {0}) E} (Err x) (Ok tt) → T
-no-denial x e = let z : ◌≡◌ {A = ℕ} 0 1 = cc in absurd (omega arith)
+no-denial x e = let z : ⊥ = cc in absurd z
 
 pair : {A B : Type 0} {p : A × B} {a : A} {b : B} → p.0 ≡ a → p.1 ≡ b → p ≡ (a, b)
 pair {p = p} {a = a} e f = ap (λ x. (x, p.1)) e ∙ ap (λ y. (a, y)) f

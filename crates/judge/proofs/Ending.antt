@@ -27,13 +27,13 @@ ended_by : {V : Type 0} (read : ℕ) (bytes : List ℕ) (left : List Move × Opt
 ended_by read bytes ([], None) e = ap (λ r. resuming r (λ _. calling close 0 0 nothing)) (sym (cond-true _ _ _ (eq-eqb _ _ (plan-left bytes e))))
 ended_by read [] ([], Some denial) e =
     let f : ◌≡◌ {A = Option Denial} None (Some denial) = ap (λ p. p.1) e in
-    let z : ◌≡◌ {A = ℕ} 0 1 = cc in
-    absurd (omega arith)
+    let z : ⊥ = cc in
+    absurd z
 ended_by read (b ∷ bytes) ([], Some denial) e = some-left read b bytes
 ended_by read [] (move ∷ moves, fault) e =
     let f : ◌≡◌ {A = List Move} [] (move ∷ moves) = ap (λ p. p.0) e in
-    let z : ◌≡◌ {A = ℕ} 0 1 = cc in
-    absurd (omega arith)
+    let z : ⊥ = cc in
+    absurd z
 ended_by read (b ∷ bytes) (move ∷ moves, fault) e = some-left read b bytes
 
 -- where the page has ended, the plan's end is looked at, and the bench is closed

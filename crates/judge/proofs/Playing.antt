@@ -1,5 +1,5 @@
 -- Two logs, played from the loading to the closing.
-use Rattle.std.proofs.Common.{◌≡◌, ℕ, ◌+◌, Ok, Err, Option, Result, sym, refl, ap, ◌∙◌, arith}
+use Rattle.std.proofs.Common.{◌≡◌, ◌+◌, Ok, Err, Option, Result, sym, refl, ap, ◌∙◌}
 use Rattle.keys.specs.declared.key.Key.{Ghosts as KeyMeaning}
 use Rattle.lines.specs.declared.Line.{Ghosts as LineMeaning}
 use Rattle.reckoning.specs.Reckoning.{start, close}
@@ -9,7 +9,7 @@ use Rattle.logs.specs.declared.fault.Fault.{Fault}
 use Rattle.logs.specs.declared.pages.PageReader.{PageReader}
 use Rattle.logs.specs.declared.plans.PlanReader.{PlanReader}
 use Rattle.logs.specs.Cursors.{left_of, passed_of}
-use Rattle.turns.specs.declared.entry.Asked.{Asked as ReadRequest}
+use Rattle.logs.specs.declared.pages.Request.{Request as ReadRequest}
 use Rattle.acceptance.specs.Scripts.{Script, calling, ending}
 use Rattle.turns.specs.Onward.{plan_left, left_over, resuming, going_from, loading_from, awaiting_from, Continues, Loads, PlayedOut}
 use Rattle.turns.proofs.Going.{called_on, goes_on, so, faulted, nothing}
@@ -33,7 +33,7 @@ module _ {K H R : Type 0} (key : KeyMeaning K) (house : LineMeaning H K) (rival 
   stopped h h' r r' ledger ledger' page plan {S} result onward {answer} fault c a b = record {
     ledger' = ledger';
     continues = so key house rival c (faulted fault onward _ a b);
-    gives = λ given e. let z : ◌≡◌ {A = ℕ} 0 1 = cc in absurd (omega arith);
+    gives = λ given e. let z : ⊥ = cc in absurd z;
   }
 
   -- all requests are served, and the plan's end is looked at

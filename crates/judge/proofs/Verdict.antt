@@ -1,5 +1,5 @@
 -- The judge's promise, from what was played.
-use Rattle.std.proofs.Common.{◌≡◌, ℕ, Bool, true, false, cond, List, Ok, Err, Decides, Result, sym, refl, ap, ◌∙◌, subst, arith}
+use Rattle.std.proofs.Common.{◌≡◌, ℕ, Bool, true, false, cond, List, Ok, Err, Decides, Result, sym, refl, ap, ◌∙◌, subst}
 use Rattle.std.proofs.lemmas.Bool.{cond-true, cond-false}
 use Rattle.keys.specs.declared.denial.Denial.{Denial}
 use Rattle.keys.specs.declared.denial.Denial.TheVariants.{NotEmpty}
@@ -35,7 +35,7 @@ module _ {K H R : Type 0} (key : KeyMeaning K) (house : LineMeaning H K) (rival 
   accepted-since (Ok done) s e answer n ledger a =
       let same : s.sums ≡ sums_of ledger = cc in
       subst (AcceptedOn key (limits_of key house rival h r) page plan) same (judged-accepted key.equal key.reading key.LETTER (limits_of key house rival h r) page plan s e)
-  accepted-since (Err fault) s e answer n ledger a = let z : ◌≡◌ {A = ℕ} 0 1 = cc in absurd (omega arith)
+  accepted-since (Err fault) s e answer n ledger a = let z : ⊥ = cc in absurd z
 
   pub judged-so : (h' : H) (r' : R) (answer : Result Ledger Fault) (answered : Result (Unit {0}) Fault) (s : State key.Value)
       → house.sound h' → rival.sound r' → limits_of key house rival h' r' ≡ limits_of key house rival h r → both_empty (house.keys h) (rival.keys r) ≡ true
@@ -49,7 +49,7 @@ module _ {K H R : Type 0} (key : KeyMeaning K) (house : LineMeaning H K) (rival 
         rival_sound = sr;
         limits = limits;
         gives = cond-true _ _ _ void ∙ ap outcome e ∙ g;
-        untouched = λ full. let z : true ≡ false = sym void ∙ full in let y : ◌≡◌ {A = ℕ} 0 1 = cc in absurd (omega arith);
+        untouched = λ full. let z : true ≡ false = sym void ∙ full in let y : ⊥ = cc in absurd y;
         accepts = λ _ sums a.
             let j = accepted-judged key.equal key.reading key.LETTER (limits_of key house rival h r) page plan sums a in
             sym (ap (λ (j : Result Sums Fault × (List key.Value × List key.Value)). j.0) g) ∙ ap (λ (j : Result (Unit {0}) Fault × State key.Value). (outcome j).0) (sym e ∙ j.1) ∙ ap Ok j.2;
@@ -60,14 +60,7 @@ module _ {K H R : Type 0} (key : KeyMeaning K) (house : LineMeaning H K) (rival 
         none_below = λ limits sums plays. accepted-floor key.equal key.reading key.LETTER decides limits page plan sums plays;
       }
 
-  -- a fault before anything was done
-  pub judged-header : (ledger : Ledger) {answer : Result Ledger Fault} (fault : Fault) → house.sound h → rival.sound r → both_empty (house.keys h) (rival.keys r) ≡ true → bench_of key house rival h r ledger ≡ empty
-      → judged key.equal key.reading key.LETTER (limits_of key house rival h r) page plan ≡ (Err fault, empty) → answer ≡ Err fault → Judged key house rival page plan h r answer h r
-  judged-header ledger {answer} fault sh sr void fresh e a =
-      judged-so h r answer (Err fault) empty sh sr refl void e
-      (λ i. (sym (ap numbers_of a) i, (sym (ap (λ (s : State key.Value). s.house) fresh) i, sym (ap (λ (s : State key.Value). s.rival) fresh) i)))
-
-  -- and on lines that hold keys
+  -- on lines that hold keys nothing is done
   pub judged-full : {answer : Result Ledger Fault} → house.sound h → rival.sound r → both_empty (house.keys h) (rival.keys r) ≡ false → answer ≡ Err (fault_on Page 0 NotEmpty) → Judged key house rival page plan h r answer h r
   judged-full {answer} sh sr full a = record {
     house_sound = sh;
@@ -75,9 +68,9 @@ module _ {K H R : Type 0} (key : KeyMeaning K) (house : LineMeaning H K) (rival 
     limits = refl;
     gives = cond-false _ _ _ full ∙ ap (λ n. (n, (values_of key (house.keys h), values_of key (rival.keys r)))) (sym (ap numbers_of a));
     untouched = λ _. (refl, refl);
-    accepts = λ void. let z : true ≡ false = sym void ∙ full in let y : ◌≡◌ {A = ℕ} 0 1 = cc in absurd (omega arith);
-    accepted = λ ledger b. let z : ◌≡◌ {A = ℕ} 0 1 = cc in absurd (omega arith);
-    costs = λ ledger b. let z : ◌≡◌ {A = ℕ} 0 1 = cc in absurd (omega arith);
+    accepts = λ void. let z : true ≡ false = sym void ∙ full in let y : ⊥ = cc in absurd y;
+    accepted = λ ledger b. let z : ⊥ = cc in absurd z;
+    costs = λ ledger b. let z : ⊥ = cc in absurd z;
     bounded = λ limits sums a. accepted-twice key.equal key.reading key.LETTER decides limits page plan sums a;
     floored = λ limits limits' plan' sums sums' a b. plans-floor key.equal key.reading key.LETTER decides limits limits' page plan plan' sums sums' a b;
     none_below = λ limits sums plays. accepted-floor key.equal key.reading key.LETTER decides limits page plan sums plays;
@@ -85,20 +78,20 @@ module _ {K H R : Type 0} (key : KeyMeaning K) (house : LineMeaning H K) (rival 
 
 -- an answer behind what was said of it
 pub said-err : {T : Type 0} (log : Log) (at : ℕ) (answer : Result T Denial) (fault : Fault) → said_of log at answer ≡ Err fault → (denial : Denial) × (answer ≡ Err denial) × (fault ≡ fault_on log at denial)
-said-err log at (Ok x) fault e = let z : ◌≡◌ {A = ℕ} 0 1 = cc in absurd (omega arith)
+said-err log at (Ok x) fault e = let z : ⊥ = cc in absurd z
 said-err log at (Err denial) fault e = (denial, refl, cc)
 
 pub said_ok : {T : Type 0} (log : Log) (at : ℕ) (answer : Result T Denial) (x : T) → said_of log at answer ≡ Ok x → answer ≡ Ok x
 said_ok log at (Ok y) x e = cc
-said_ok log at (Err denial) x e = let z : ◌≡◌ {A = ℕ} 0 1 = cc in absurd (omega arith)
+said_ok log at (Err denial) x e = let z : ⊥ = cc in absurd z
 
 -- whether a bench was opened
 opened-ok : {S T : Type 0} (b : Bool) (meaning : S → T) (start : T) (x : S) → meant meaning (Ok x) ≡ cond b (Ok start) (Err NotEmpty) → (b ≡ true) × (meaning x ≡ start)
 opened-ok true meaning start x e = (refl, cc)
-opened-ok false meaning start x e = let z : ◌≡◌ {A = ℕ} 0 1 = cc in absurd (omega arith)
+opened-ok false meaning start x e = let z : ⊥ = cc in absurd z
 
 opened-err : {S T : Type 0} (b : Bool) (meaning : S → T) (start : T) (denial : Denial) → meant meaning (Err denial) ≡ cond b (Ok start) (Err NotEmpty) → (b ≡ false) × (denial ≡ NotEmpty)
-opened-err true meaning start denial e = let z : ◌≡◌ {A = ℕ} 0 1 = cc in absurd (omega arith)
+opened-err true meaning start denial e = let z : ⊥ = cc in absurd z
 opened-err false meaning start denial e = (refl, cc)
 
 -- the outcome of an answer, without its numbers

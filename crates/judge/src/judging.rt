@@ -16,11 +16,7 @@ fn check_ended(plan: &PlanReader<'_>) -> Result<(), Fault>
     ensures { result ≡ left_over (passed_of plan.now.cursor + 1) (left_of plan.now.cursor) }
 {
     if !plan.is_done() {
-        return Err(Fault {
-            denial: Denial::Misfit,
-            log: Log::Plan,
-            at: plan.passed() + 1,
-        });
+        return said_of(Log::Plan, plan.passed() + 1, Err(Denial::Misfit));
     }
     Ok(())
 }

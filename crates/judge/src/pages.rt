@@ -1,12 +1,20 @@
 // The page's side: its first keys, and its requests one by one.
 ghost use Rattle.std.specs.Prelude.{◌≡◌};
-ghost use Rattle.turns.specs.Onward.{request_by, ReadOn, Loads, ServesAll};
+ghost use Rattle.turns.specs.Onward.{EntryTaken, ReadOn, Loads, ServesAll};
 
 use bench::{Loading, Running};
 use keys::{Denial, Key};
 use lines::{Line, Orderly};
-use logs::{Fault, Log, PageReader, PlanReader};
-use turns::{Asked, Entry, next_entry, said_of, serve};
+use logs::{Fault, Log, PageReader, PageRecord, PlanReader, Request};
+use turns::{next_entry, said_of, serve};
+
+// The next record of a page, with its key read, or none at the end.
+fn next_record<K: Key>(page: &mut PageReader<'_>) -> Result<Option<PageRecord<K>>, Fault>
+    ensures { EntryTaken K.Key.own result page.old page.new }
+{
+    let at = page.passed() + 1;
+    said_of(Log::Page, at, next_entry::<K>(page))
+}
 
 // Loads the first keys of a page, and gives its first request, or none where it has none.
 pub(crate) fn load_all<K: Key, H: Orderly<K>, R: Orderly<K>>(
@@ -14,49 +22,33 @@ pub(crate) fn load_all<K: Key, H: Orderly<K>, R: Orderly<K>>(
     house: &mut H,
     rival: &mut R,
     page: &mut PageReader<'_>,
-) -> Result<Option<Asked<K>>, Fault>
+) -> Result<Option<Request<K>>, Fault>
     requires { (H.Line.sound house.old) × (R.Line.sound rival.old) }
     ensures { Loads K.Key.own H.Line R.Line house.old rival.old bench.old.ledger page.old result house.new rival.new bench.new.ledger page.new }
 {
     loop {
-        let at = page.passed() + 1;
-        let Some(entry) = said_of(Log::Page, at, next_entry::<K>(page))? else {
+        let Some(entry) = next_record::<K>(page)? else {
             return Ok(None);
         };
         match entry {
-            Entry::Request(asked) => return Ok(Some(asked)),
-            Entry::First(key) => {
+            PageRecord::Request(asked) => return Ok(Some(asked)),
+            PageRecord::First(key) => {
                 let loaded = bench.load(house, rival, key);
-                said_of(Log::Page, at, loaded)?;
+                said_of(Log::Page, page.passed(), loaded)?;
             }
         }
     }
 }
 
-// The request that a page gives next, at a record; the reader gives no first key behind a request.
-fn request_by<K: Key>(
-    at: usize,
-    next: Result<Option<Entry<K>>, Denial>,
-) -> Result<Option<Asked<K>>, Fault>
-    ensures { result ≡ request_by at next }
-{
-    match said_of(Log::Page, at, next)? {
-        None => Ok(None),
-        Some(Entry::Request(asked)) => Ok(Some(asked)),
-        Some(Entry::First(_)) => Err(Fault {
-            denial: Denial::Layout,
-            log: Log::Page,
-            at,
-        }),
-    }
-}
-
-// The next request of a page, or none at its end.
-fn next_request<K: Key>(page: &mut PageReader<'_>) -> Result<Option<Asked<K>>, Fault>
+// The next request of a page, or none at its end; the reader gives no first key behind a request.
+fn next_request<K: Key>(page: &mut PageReader<'_>) -> Result<Option<Request<K>>, Fault>
     ensures { ReadOn K.Key.own result page.old page.new }
 {
-    let at = page.passed() + 1;
-    request_by(at, next_entry::<K>(page))
+    match next_record::<K>(page)? {
+        None => Ok(None),
+        Some(PageRecord::Request(asked)) => Ok(Some(asked)),
+        Some(PageRecord::First(_)) => said_of(Log::Page, page.passed(), Err(Denial::Layout)),
+    }
 }
 
 // Serves all requests of a page, from the first, which was read, to the page's end.
@@ -66,7 +58,7 @@ pub(crate) fn serve_all<K: Key, H: Orderly<K>, R: Orderly<K>>(
     rival: &mut R,
     page: &mut PageReader<'_>,
     plan: &mut PlanReader<'_>,
-    first: Option<Asked<K>>,
+    first: Option<Request<K>>,
 ) -> Result<(), Fault>
     requires { (H.Line.sound house.old) × (R.Line.sound rival.old) }
     ensures { ServesAll K.Key.own H.Line R.Line first house.old rival.old bench.old.ledger page.old plan.old result house.new rival.new bench.new.ledger plan.new }

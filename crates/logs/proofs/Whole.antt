@@ -108,11 +108,6 @@ goes_on rule high (low ∷ rest) =
     cond_both (ltb (length rest) size) _ _ (λ next. GoesOn (read_in rule bytes next)) (λ _. tt)
     (λ _. goes-passed bytes (drop size rest) (rule (take size rest)))
 
--- and where none is read, none is left
-pub read-ended : {R : Type 0} (rule : List ℕ → Result R Denial) (bytes left : List ℕ) → read_next rule bytes ≡ (Ok None, left) → length left ≡ 0
-read-ended {R} rule [] left e = sym (ap (λ (answer : Result (Option R) Denial × List ℕ). length answer.1) e)
-read-ended {R} rule (b ∷ bytes) left e = absurd (subst GoesOn e (goes_on rule b bytes))
-
 abbrev Some-left : List Move × Option Denial → Type 0
 Some-left ([], None) = ⊥
 Some-left ([], Some d) = Unit {0}

@@ -1,5 +1,5 @@
 -- The bytes of a log: a header, and then records, each a length of two bytes and that many bytes.
-use Rattle.std.specs.Prelude.{ℕ, ◌+◌, ◌*◌, ◌<◌, cond, List, [], ◌∷◌, length, take, drop, Some, None, Ok, Err, Option, Result, ◌==◌, nat_lt}
+use Rattle.std.specs.Prelude.{◌≡◌, ℕ, ◌+◌, ◌*◌, ◌<◌, cond, List, [], ◌∷◌, length, take, drop, Some, None, Ok, Err, Option, Result, ◌==◌, nat_lt}
 use Rattle.keys.specs.declared.denial.Denial.{Denial}
 use Rattle.keys.specs.declared.denial.Denial.TheVariants.{Version, Letter, CutOff}
 use Rattle.logs.specs.declared.framing.Frame.{Frame}
@@ -71,3 +71,9 @@ abbrev pub FewerThan : ℕ → Result (Option Frame) Denial → Type 0
 FewerThan n (Ok None) = Unit {0}
 FewerThan n (Ok (Some frame)) = length frame.rest.now < n
 FewerThan n (Err d) = Unit {0}
+
+-- a record was read next, as a rule said of its bytes, and these bytes are left
+pub record ReadBy {T : Type 0} (Says : List ℕ → Result T Denial → Type 0) (bytes : List ℕ) (answer : Result (Option T) Denial) (left : List ℕ) : Type 0 where
+  pub given : Result T Denial
+  pub said : (parts : List ℕ × List ℕ) → next_in bytes ≡ Ok (Some parts) → Says parts.0 given
+  pub read : read_next (λ _. given) bytes ≡ (answer, left)

@@ -1,5 +1,6 @@
 -- Page logs: first keys, then requests, each with its key's spelling.
 use Rattle.std.specs.Prelude.{ℕ, Bool, true, false, cond, not, ◌&&◌, ◌||◌, List, [], ◌∷◌, is_some, Some, None, Ok, Err, Option, Result, ◌==◌}
+use denote.Ref.{Bor}
 use Rattle.keys.specs.declared.denial.Denial.{Denial}
 use Rattle.keys.specs.declared.denial.Denial.TheVariants.{Layout}
 use Rattle.logs.specs.Records.{records_from}
@@ -23,13 +24,23 @@ pub record Entry : Type 0 where
 abbrev pub entry : Asks → List ℕ → Entry
 entry asks spelling = record { asks = asks; spelling = spelling }
 
+-- the same request and the same record, of another key
+abbrev pub request_with : {T U : Type 0} → Request T → U → Request U
+request_with (Lookup k) other = Lookup other
+request_with (Add k) other = Add other
+request_with (Remove k) other = Remove other
+
+abbrev pub record_with : {T U : Type 0} → PageRecord T → U → PageRecord U
+record_with (First k) other = First other
+record_with (Asked r) other = Asked (request_with r other)
+
 -- the value of a page record
-abbrev pub request_of : Request → Entry
+abbrev pub request_of : Request (Bor (List ℕ)) → Entry
 request_of (Lookup s) = entry lookup s.now
 request_of (Add s) = entry add s.now
 request_of (Remove s) = entry remove s.now
 
-abbrev pub entry_of : PageRecord → Entry
+abbrev pub entry_of : PageRecord (Bor (List ℕ)) → Entry
 entry_of (First s) = entry first s.now
 entry_of (Asked r) = request_of r
 

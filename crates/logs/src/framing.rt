@@ -1,35 +1,26 @@
 // The bytes of a log: a header, and then records with their lengths.
 ghost use Rattle.std.specs.Prelude.{◌≡◌, ◌+◌, ◌^◌, ◌<◌, length, ◌==◌};
+ghost use Rattle.std.specs.Fn.{FnOnceReturnsAt};
 ghost use Rattle.keys.specs.Spelling.{meant};
-ghost use Rattle.logs.specs.Framing.{behind, versioned, lettered, two_bytes, framed, next_in, valued, parts_of, FewerThan};
+ghost use Rattle.logs.specs.Framing.{behind, versioned, lettered, framed, next_in, valued, gained, parts_of, FewerThan, ReadBy};
 
 use keys::Denial;
 
 // A record's bytes, and the bytes behind them.
 #[derive(Clone, Copy)]
-pub(crate) struct Frame<'a> {
-    pub(crate) body: &'a [u8],
-    pub(crate) rest: &'a [u8],
-}
-
-// Two bytes as a number, the higher first.
-pub(crate) fn two_bytes(high: u8, low: u8) -> u16
-    ensures { result ≡ two_bytes high low }
-{
-    high as u16 * 256 + low as u16
+struct Frame<'a> {
+    body: &'a [u8],
+    rest: &'a [u8],
 }
 
 // What is left behind a first byte, which has to be the wanted one.
 fn rest_behind(bytes: &[u8], wanted: u8, denial: Denial) -> Result<&[u8], Denial>
     ensures { meant (λ rest. rest.now) result ≡ behind wanted denial bytes.now }
 {
-    let [first, rest @ ..] = bytes else {
-        return Err(denial);
-    };
-    if *first != wanted {
-        return Err(denial);
+    match bytes {
+        [first, rest @ ..] if *first == wanted => Ok(rest),
+        _ => Err(denial),
     }
-    Ok(rest)
 }
 
 // What is left behind the version byte.
@@ -51,22 +42,19 @@ fn cut(bytes: &[u8], size: usize) -> Result<Option<Frame<'_>>, Denial>
     ensures value { valued parts_of result ≡ framed size bytes.now }
     ensures fewer { FewerThan (length bytes.now + 1) result }
 {
-    if bytes.len() < size {
-        return Err(Denial::CutOff);
-    }
-    let (body, rest) = bytes.split_at(size);
+    let (body, rest) = bytes.split_at_checked(size).ok_or(Denial::CutOff)?;
     Ok(Some(Frame { body, rest }))
 }
 
 // The next record and the bytes behind it, or nothing at the end.
-pub(crate) fn next_frame(bytes: &[u8]) -> Result<Option<Frame<'_>>, Denial>
+fn next_frame(bytes: &[u8]) -> Result<Option<Frame<'_>>, Denial>
     ensures value { valued parts_of result ≡ next_in bytes.now }
     ensures fewer { FewerThan (length bytes.now) result }
 {
     match bytes {
         [] => Ok(None),
         [_] => Err(Denial::CutOff),
-        [high, low, rest @ ..] => cut(rest, two_bytes(*high, *low) as usize),
+        [high, low, rest @ ..] => cut(rest, u16::from_be_bytes([*high, *low]).into()),
     }
 }
 
@@ -102,17 +90,33 @@ impl<'a> Cursor<'a> {
         ensures value { result ≡ passed_of self.now }
         ensures bound { result + 1 < 2 ^ 64 }
     {
-        self.passed.min(usize::MAX - self.rest.len())
+        self.passed
     }
 
     // Passes one record, behind which these bytes are left.
-    pub(crate) fn pass(&mut self, rest: &'a [u8])
+    fn pass(&mut self, rest: &'a [u8])
         requires { length rest.now < length (left_of self.old) }
         ensures left { left_of self.new ≡ rest.now }
         ensures passed { passed_of self.new ≡ passed_of self.old + 1 }
     {
-        let passed = self.passed() + 1;
         self.rest = rest;
-        self.passed = passed;
+        self.passed += 1;
+    }
+
+    // The next record, as a rule reads its bytes, or none at the end. A record that is denied is not passed.
+    pub(crate) fn next_by<T, F: FnOnce(&'a [u8]) -> Result<T, Denial>>(
+        &mut self,
+        rule: F,
+    ) -> Result<Option<T>, Denial>
+        requires { F.IsAlwaysCallable rule }
+        ensures read { ReadBy (FnOnceReturnsAt F.FnOnce rule) (left_of self.old) result (left_of self.new) }
+        ensures passed { passed_of self.new ≡ passed_of self.old + gained result }
+    {
+        let Some(frame) = next_frame(self.rest)? else {
+            return Ok(None);
+        };
+        let given = rule(frame.body)?;
+        self.pass(frame.rest);
+        Ok(Some(given))
     }
 }

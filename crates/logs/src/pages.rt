@@ -3,41 +3,77 @@ ghost use Rattle.std.specs.Prelude.{◌≡◌, ◌+◌, ◌^◌, ◌<◌, false,
 ghost use Rattle.keys.specs.Spelling.{meant};
 ghost use Rattle.logs.specs.Framing.{versioned, lettered_in, read_next, valued, gained};
 ghost use Rattle.logs.specs.Cursors.{left_of, passed_of};
-ghost use Rattle.logs.specs.Pages.{entry_as, spelled_entry, asked, request_of, entry_of, is_request, page_entry, requested_by};
+ghost use Rattle.logs.specs.Pages.{entry_as, spelled_entry, asked, request_of, entry_of, request_with, record_with, page_entry, requested_by};
 
-use super::framing::{Cursor, behind_letter, behind_version, next_frame};
+use super::framing::{Cursor, behind_letter, behind_version};
 use keys::{Denial, Key};
 
-// What a page's log asks for, with the spelling of a key, a part of the log.
-#[derive(Clone, Copy)]
-pub enum Request<'a> {
-    Lookup(&'a [u8]),
-    Add(&'a [u8]),
-    Remove(&'a [u8]),
+// What a page's log asks for, with a key, or with the spelling of one, a part of the log.
+#[derive(Clone, Copy, PartialEq, Eq, Debug)]
+pub enum Request<T> {
+    Lookup(T),
+    Add(T),
+    Remove(T),
 }
 
-impl<'a> Request<'a> {
+impl<'a> Request<&'a [u8]> {
     // The spelling of the key.
     pub fn spelling(self) -> &'a [u8]
         ensures { result.now ≡ (request_of self.entry).spelling }
     {
         match self {
-            Request::Lookup(spelling) => spelling,
-            Request::Add(spelling) => spelling,
-            Request::Remove(spelling) => spelling,
+            Request::Lookup(spelling) | Request::Add(spelling) | Request::Remove(spelling) =>
+                spelling,
+        }
+    }
+}
+
+impl<T> Request<T> {
+    // The same request of another key.
+    pub fn with_key<U>(&self, key: U) -> Request<U>
+        ensures { result ≡ request_with self.now key }
+    {
+        match self {
+            Request::Lookup(_) => Request::Lookup(key),
+            Request::Add(_) => Request::Add(key),
+            Request::Remove(_) => Request::Remove(key),
         }
     }
 }
 
 // A record of a page log: a key that the page begins with, or a request.
-#[derive(Clone, Copy)]
-pub enum PageRecord<'a> {
-    First(&'a [u8]),
-    Request(Request<'a>),
+#[derive(Clone, Copy, PartialEq, Eq, Debug)]
+pub enum PageRecord<T> {
+    First(T),
+    Request(Request<T>),
+}
+
+impl<'a> PageRecord<&'a [u8]> {
+    // The spelling of the key.
+    pub fn spelling(self) -> &'a [u8]
+        ensures { result.now ≡ (entry_of self.entry).spelling }
+    {
+        match self {
+            PageRecord::First(spelling) => spelling,
+            PageRecord::Request(request) => request.spelling(),
+        }
+    }
+}
+
+impl<T> PageRecord<T> {
+    // The same record of another key.
+    pub fn with_key<U>(&self, key: U) -> PageRecord<U>
+        ensures { result ≡ record_with self.now key }
+    {
+        match self {
+            PageRecord::First(_) => PageRecord::First(key),
+            PageRecord::Request(request) => PageRecord::Request(request.with_key(key)),
+        }
+    }
 }
 
 // The record of a letter and a spelling, where a first key does not follow a request.
-fn record_by(letter: u8, spelling: &[u8], requested: bool) -> Result<PageRecord<'_>, Denial>
+fn record_by(letter: u8, spelling: &[u8], requested: bool) -> Result<PageRecord<&[u8]>, Denial>
     ensures { meant entry_of result ≡ entry_as (asked requested letter) spelling.now }
 {
     match letter {
@@ -49,22 +85,15 @@ fn record_by(letter: u8, spelling: &[u8], requested: bool) -> Result<PageRecord<
     }
 }
 
-// Whether a spelling is longer than any of its kind.
-fn is_too_long<K: Key>(spelling: &[u8]) -> bool
-    ensures { result ≡ nat_lt K.Key.LONGEST (length spelling.now) }
-{
-    spelling.len() > K::LONGEST
-}
-
 // The record of a letter and a spelling that the kind of key has a value for.
 fn spelled_record<K: Key>(
     letter: u8,
     spelling: &[u8],
     requested: bool,
-) -> Result<PageRecord<'_>, Denial>
+) -> Result<PageRecord<&[u8]>, Denial>
     ensures { meant entry_of result ≡ spelled_entry K.Key.reading requested letter spelling.now }
 {
-    if is_too_long::<K>(spelling) {
+    if spelling.len() > K::LONGEST {
         return Err(Denial::Layout);
     }
     let _key = K::read(spelling)?;
@@ -72,22 +101,12 @@ fn spelled_record<K: Key>(
 }
 
 // The record of its bytes.
-fn page_record<K: Key>(body: &[u8], requested: bool) -> Result<PageRecord<'_>, Denial>
+fn page_record<K: Key>(body: &[u8], requested: bool) -> Result<PageRecord<&[u8]>, Denial>
     ensures { meant entry_of result ≡ page_entry K.Key.reading requested body.now }
 {
     match body {
         [] => Err(Denial::Layout),
         [letter, spelling @ ..] => spelled_record::<K>(*letter, spelling, requested),
-    }
-}
-
-// Whether a record is a request.
-fn is_request(given: PageRecord<'_>) -> bool
-    ensures { result ≡ is_request (entry_of given.entry) }
-{
-    match given {
-        PageRecord::First(_) => false,
-        PageRecord::Request(_) => true,
     }
 }
 
@@ -113,18 +132,17 @@ impl<'a> PageReader<'a> {
     }
 
     // The next record, or none at the end. A record that is denied is not passed.
-    pub fn next<K: Key>(&mut self) -> Result<Option<PageRecord<'a>>, Denial>
+    pub fn next<K: Key>(&mut self) -> Result<Option<PageRecord<&'a [u8]>>, Denial>
         ensures read { read_next (page_entry K.Key.reading self.old.requested) (left_of self.old.cursor) ≡ (valued entry_of result, left_of self.new.cursor) }
         ensures requested { self.new.requested ≡ requested_by self.old.requested (valued entry_of result) }
         ensures passed { passed_of self.new.cursor ≡ passed_of self.old.cursor + gained result }
     {
-        let Some(frame) = next_frame(self.cursor.rest)? else {
-            return Ok(None);
-        };
-        let given = page_record::<K>(frame.body, self.requested)?;
-        self.cursor.pass(frame.rest);
-        self.requested = self.requested || is_request(given);
-        Ok(Some(given))
+        let requested = self.requested;
+        let next = self
+            .cursor
+            .next_by(|body| page_record::<K>(body, requested))?;
+        self.requested |= matches!(next, Some(PageRecord::Request(_)));
+        Ok(next)
     }
 
     // Whether no byte is left.

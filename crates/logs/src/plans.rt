@@ -5,7 +5,7 @@ ghost use Rattle.logs.specs.Framing.{versioned, read_next, gained};
 ghost use Rattle.logs.specs.Cursors.{left_of, passed_of};
 ghost use Rattle.logs.specs.Plans.{move_by, plan_move};
 
-use super::framing::{Cursor, behind_version, next_frame, two_bytes};
+use super::framing::{Cursor, behind_version};
 use keys::Denial;
 
 // A record of a plan log: an exchange at a place, or a goal.
@@ -33,7 +33,7 @@ fn plan_move(body: &[u8]) -> Result<Move, Denial>
     let [letter, high, low] = body else {
         return Err(Denial::Layout);
     };
-    move_by(*letter, two_bytes(*high, *low))
+    move_by(*letter, u16::from_be_bytes([*high, *low]))
 }
 
 // A reader of a plan log: a place in it.
@@ -59,12 +59,7 @@ impl<'a> PlanReader<'a> {
         ensures read { read_next plan_move (left_of self.old.cursor) ≡ (result, left_of self.new.cursor) }
         ensures passed { passed_of self.new.cursor ≡ passed_of self.old.cursor + gained result }
     {
-        let Some(frame) = next_frame(self.cursor.rest)? else {
-            return Ok(None);
-        };
-        let given = plan_move(frame.body)?;
-        self.cursor.pass(frame.rest);
-        Ok(Some(given))
+        self.cursor.next_by(plan_move)
     }
 
     // Whether no byte is left.

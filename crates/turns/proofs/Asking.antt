@@ -1,5 +1,5 @@
 -- A request's moves, one at a time, as a reader of the plan gives them.
-use Rattle.std.proofs.Common.{◌≡◌, ℕ, suc, ◌+◌, ◌<◌, List, length, Some, None, Ok, Err, Option, Result, sym, ap, ◌∙◌, add-one, arith}
+use Rattle.std.proofs.Common.{◌≡◌, ℕ, suc, ◌+◌, List, Some, None, Ok, Err, Option, Result, sym, ap, ◌∙◌, add-one, arith}
 use Rattle.keys.specs.declared.denial.Denial.{Denial}
 use Rattle.keys.specs.declared.denial.Denial.TheVariants.{Misfit}
 use Rattle.keys.specs.declared.key.Key.{Ghosts as KeyMeaning}
@@ -13,11 +13,9 @@ use Rattle.logs.specs.declared.plans.PlanReader.{PlanReader}
 use Rattle.logs.specs.declared.plans.Move.{Move}
 use Rattle.logs.specs.declared.plans.Move.TheVariants.{Exchange, Goal}
 use Rattle.logs.specs.Framing.{gained}
-use Rattle.logs.specs.Cursors.{left_of, passed_of}
+use Rattle.logs.specs.Cursors.{passed_of}
 use Rattle.logs.specs.Items.{Asked}
-use Rattle.logs.specs.Plans.{plan_move}
 use Rattle.logs.specs.Plans.{plan_by}
-use Rattle.logs.proofs.Whole.{read-fewer}
 use Rattle.acceptance.specs.Scripts.{Script, faulty, calling, requesting, asking}
 use Rattle.turns.specs.Onward.{said_of, taken_move, plan_left, resuming, asking_from, Taken, Continues}
 use Rattle.turns.proofs.Reading.{plan-read}
@@ -29,17 +27,6 @@ module _ {V : Type 0} where
   moving asked page onward (Exchange place) read plan = calling (exchange place) page read (asking asked page onward read plan.0 plan.1)
   moving asked page onward (Goal goal) read plan = requesting asked goal page read (onward read plan.0 plan.1)
 
--- what was taken was given
-taken-given : (at : ℕ) (answer : Result (Option Move) Denial) (move : Move) → taken_move at answer ≡ Ok move → answer ≡ Ok (Some move)
-taken-given at (Ok None) move e = let z : ◌≡◌ {A = ℕ} 0 1 = cc in absurd (omega arith)
-taken-given at (Ok (Some given)) move e = cc
-taken-given at (Err denial) move e = let z : ◌≡◌ {A = ℕ} 0 1 = cc in absurd (omega arith)
-
-pub taken-fewer : (plan plan' : PlanReader) (result : Result Move Fault) (move : Move) → Taken result plan plan' → result ≡ Ok move → length (left_of plan'.cursor) < length (left_of plan.cursor)
-taken-fewer plan plan' result move t e =
-    let given = taken-given (passed_of plan.cursor + 1) t.answer move (sym t.takes ∙ e) in
-    read-fewer plan_move (left_of plan.cursor) (left_of plan'.cursor) move (t.read ∙ ap (λ a. (a, left_of plan'.cursor)) given)
-
 module _ {V : Type 0} (asked : Asked V) (page : ℕ) (onward : ℕ → List Move → Option Denial → Script V) where
   asking-next : (left' : List Move × Option Denial) (answer : Result (Option Move) Denial) (read read' : ℕ) → read' ≡ read + gained answer
       → asking asked page onward read (plan_by answer left').0 (plan_by answer left').1 ≡ resuming (taken_move (read + 1) answer) (λ move. moving asked page onward move read' left')
@@ -48,24 +35,23 @@ module _ {V : Type 0} (asked : Asked V) (page : ℕ) (onward : ℕ → List Move
   asking-next left' (Ok (Some (Goal goal))) read read' e = let same : suc read ≡ read' = omega arith in ap (λ n. moving asked page onward (Goal goal) n left') same
   asking-next left' (Err denial) read read' e = ap (λ n. faulty Plan n denial) (sym (add-one read))
 
-  pub move_taken : (plan plan' : PlanReader) (result : Result Move Fault) → Taken result plan plan'
-      → asking_from asked page onward plan ≡ resuming result (λ move. moving asked page onward move (passed_of plan'.cursor) (plan_left plan'))
-  move_taken plan plan' result t =
+  pub move_taken : (plan plan' : PlanReader) {result next : Result Move Fault} → Taken result plan plan' → result ≡ next
+      → asking_from asked page onward plan ≡ resuming next (λ move. moving asked page onward move (passed_of plan'.cursor) (plan_left plan'))
+  move_taken plan plan' t was =
       ap (λ (left : List Move × Option Denial). asking asked page onward (passed_of plan.cursor) left.0 left.1) (plan-read plan plan' t.answer t.read)
       ∙ asking-next (plan_left plan') t.answer (passed_of plan.cursor) (passed_of plan'.cursor) t.passed
-      ∙ ap (λ taken. resuming taken (λ move. moving asked page onward move (passed_of plan'.cursor) (plan_left plan'))) (sym t.takes)
+      ∙ ap (λ taken. resuming taken (λ move. moving asked page onward move (passed_of plan'.cursor) (plan_left plan'))) (sym t.takes ∙ was)
 
 -- an exchange that the plan gave was made
-pub exchange-made : {K H R : Type 0} (key : KeyMeaning K) (house : LineMeaning H K) (rival : LineMeaning R K) (h : H) (r r' : R) (ledger ledger' : Ledger) (plan plan' : PlanReader) (taken : Result Move Fault) (place : ℕ)
-    (answer : Result (Unit {0}) Denial) (at : ℕ) (said : Result (Unit {0}) Fault)
-    → house.sound h → rival.sound r → Taken taken plan plan' → taken ≡ Ok (Exchange place) → Called key house rival (exchange place) h r ledger answer h r' ledger' → at ≡ passed_of plan'.cursor → said ≡ said_of Plan at answer
+pub exchange-made : {K H R : Type 0} (key : KeyMeaning K) (house : LineMeaning H K) (rival : LineMeaning R K) (h : H) (r r' : R) (ledger ledger' : Ledger) (plan plan' : PlanReader) {taken : Result Move Fault} (place : ℕ)
+    (answer : Result (Unit {0}) Denial) {at : ℕ} {said next : Result (Unit {0}) Fault}
+    → house.sound h → rival.sound r → Taken taken plan plan' → taken ≡ Ok (Exchange place) → Called key house rival (exchange place) h r ledger answer h r' ledger' → at ≡ passed_of plan'.cursor → said ≡ said_of Plan at answer → said ≡ next
     → (asked : Asked key.Value) (page : ℕ) (onward : ℕ → List Move → Option Denial → Script key.Value)
-    → Continues key house rival h r ledger (asking_from asked page onward plan) h r' ledger' (resuming said (λ _. asking_from asked page onward plan'))
-exchange-made key house rival h r r' ledger ledger' plan plan' taken place answer at said sh sr t e called n s asked page onward =
+    → Continues key house rival h r ledger (asking_from asked page onward plan) h r' ledger' (resuming next (λ _. asking_from asked page onward plan'))
+exchange-made key house rival h r r' ledger ledger' plan plan' place answer sh sr t e called n s was asked page onward =
     let read = passed_of plan'.cursor in
-    let here = move_taken asked page onward plan plan' taken t ∙ ap (λ r. resuming r (λ move. moving asked page onward move read (plan_left plan'))) e in
-    goes_on key house rival (stays key house rival h r ledger _ _ sh sr here)
-    (called_on key house rival (exchange place) page read h r ledger answer h r' ledger' called (s ∙ ap (λ n. said_of Plan n answer) n ∙ held-exchange key.Value place page read answer) (asking_from asked page onward plan'))
+    goes_on key house rival (stays key house rival h r ledger _ _ sh sr (move_taken asked page onward plan plan' t e))
+    (called_on key house rival (exchange place) page read h r ledger answer h r' ledger' called (sym was ∙ s ∙ ap (λ n. said_of Plan n answer) n ∙ held-exchange key.Value place page read answer) (asking_from asked page onward plan'))
 
 module _ {K H R : Type 0} (key : KeyMeaning K) (house : LineMeaning H K) (rival : LineMeaning R K) where
   -- whatever was to be asked for with the plan's next moves, some exchanges were played, and more moves are to come

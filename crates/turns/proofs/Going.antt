@@ -1,16 +1,16 @@
 -- How playing a script goes on: call by call, and from one stretch to the next.
-use Rattle.std.proofs.Common.{◌≡◌, ℕ, [], None, Ok, Err, Result, sym, refl, ap, ◌∙◌, subst}
+use Rattle.std.proofs.Common.{◌≡◌, ℕ, [], Some, None, Ok, Err, Result, sym, refl, ap, ◌∙◌, subst}
 use Rattle.keys.specs.declared.denial.Denial.{Denial}
 use Rattle.keys.specs.declared.key.Key.{Ghosts as KeyMeaning}
 use Rattle.lines.specs.declared.Line.{Ghosts as LineMeaning}
-use Rattle.reckoning.specs.Reckoning.{Call, load, lookup, add, exchange, Limits, State}
+use Rattle.reckoning.specs.Reckoning.{Call, load, exchange, Limits, State}
 use Rattle.bench.specs.Benches.{limits_of, bench_of, Called}
 use Rattle.bench.specs.declared.ledger.Ledger.{Ledger}
 use Rattle.logs.specs.declared.fault.Log.TheVariants.{Page, Plan}
 use Rattle.logs.specs.declared.fault.Fault.{Fault}
 use Rattle.acceptance.specs.Scripts.{Spelled, Script, calling}
 use Rattle.acceptance.specs.Judgement.{blamed, settling, played}
-use Rattle.turns.specs.Onward.{said_of, said_of_request, resuming, Continues}
+use Rattle.turns.specs.Onward.{said_of, resuming, Continues}
 
 -- an answer, with its denial held against what the call is read from
 abbrev pub held : {V : Type 0} → Spelled V → Result (Unit {0}) Denial → Result (Unit {0}) Fault
@@ -20,16 +20,7 @@ held spelled (Err denial) = Err (blamed spelled denial)
 abbrev pub spelled_at : {V : Type 0} → Call V → ℕ → ℕ → Spelled V
 spelled_at call page plan = record { call = call; page = page; plan = plan }
 
--- a lookup's and an addition's answers are held so
-pub held-lookup : {V : Type 0} (v : V) (goal page plan : ℕ) (answer : Result (Unit {0}) Denial) → said_of_request page plan answer ≡ held (spelled_at (lookup v goal) page plan) answer
-held-lookup v goal page plan (Ok done) = refl
-held-lookup v goal page plan (Err denial) = refl
-
-pub held-add : {V : Type 0} (v : V) (goal page plan : ℕ) (answer : Result (Unit {0}) Denial) → said_of_request page plan answer ≡ held (spelled_at (add v goal) page plan) answer
-held-add v goal page plan (Ok done) = refl
-held-add v goal page plan (Err denial) = refl
-
--- and so are those of the calls that are held against one log
+-- the answers of calls that are held against one log are held so
 pub held-load : {V : Type 0} (v : V) (page plan : ℕ) (answer : Result (Unit {0}) Denial) → said_of Page page answer ≡ held (spelled_at (load v) page plan) answer
 held-load v page plan (Ok done) = refl
 held-load v page plan (Err denial) = refl
@@ -88,8 +79,11 @@ module _ {K H R : Type 0} (key : KeyMeaning K) (house : LineMeaning H K) (rival 
   so {h} {h'} {r} {r'} {ledger} {ledger'} {script} a e = subst (Continues key house rival h r ledger script h' r' ledger') e a
 
 -- a fault ends a script whatever was to come
+pub stopping : {V T : Type 0} (fault : Fault) {result : Result T Fault} (onward : T → Script V) → result ≡ Err fault → record { calls = []; fault = Some fault } ≡ resuming result onward
+stopping fault onward e = ap (λ r. resuming r onward) (sym e)
+
 pub faulted : {V S T : Type 0} (fault : Fault) {first : Result S Fault} {second : Result T Fault} (onward : S → Script V) (onward' : T → Script V) → first ≡ Err fault → second ≡ Err fault → resuming first onward ≡ resuming second onward'
-faulted fault onward onward' a b = ap (λ r. resuming r onward) a ∙ ap (λ r. resuming r onward') (sym b)
+faulted fault onward onward' a b = ap (λ r. resuming r onward) a ∙ stopping fault onward' b
 
 -- a script of no calls
 abbrev pub nothing : {V : Type 0} → Script V

@@ -1,21 +1,24 @@
 -- What is left of a log, by what a reader gave.
-use Rattle.std.proofs.Common.{◌≡◌, ℕ, List, [], Some, None, Ok, Err, Option, Result, sym, ap, ◌∙◌, subst, arith}
+use Rattle.std.proofs.Common.{◌≡◌, ℕ, List, Some, None, Ok, Option, Result, sym, refl, ap, ◌∙◌}
+use denote.Ref.{Bor}
+use Rattle.keys.specs.Spelling.{read_as}
 use Rattle.keys.specs.declared.denial.Denial.{Denial}
 use Rattle.keys.specs.declared.key.Key.{Ghosts as KeyMeaning}
 use Rattle.logs.specs.declared.pages.PageReader.{PageReader}
 use Rattle.logs.specs.declared.pages.PageRecord.{PageRecord}
+use Rattle.logs.specs.declared.pages.PageRecord.TheVariants.{First, Request as Asked}
+use Rattle.logs.specs.declared.pages.Request.TheVariants.{Lookup, Add, Remove}
 use Rattle.logs.specs.declared.plans.PlanReader.{PlanReader}
 use Rattle.logs.specs.declared.plans.Move.{Move}
 use Rattle.logs.specs.Framing.{read_next, valued}
 use Rattle.logs.specs.Cursors.{left_of}
 use Rattle.logs.specs.Records.{with}
-use Rattle.logs.specs.Pages.{Entry, entry_of, page_entry, requested_by}
+use Rattle.logs.specs.Pages.{entry_of, record_with, page_entry, requested_by}
 use Rattle.logs.specs.Plans.{plan_move}
-use Rattle.logs.specs.Items.{Item, valued_with, page_by}
+use Rattle.logs.specs.Items.{Item, item, valued_with, page_by}
 use Rattle.logs.specs.Plans.{plan_by}
 use Rattle.logs.proofs.Whole.{page-next, plan-next}
-use Rattle.turns.specs.declared.entry.Entry.{Entry as ReadRecord}
-use Rattle.turns.specs.Onward.{plan_left, page_left, item_by, read_by, Advanced}
+use Rattle.turns.specs.Onward.{plan_left, page_left, item_of}
 
 pub plan-read : (plan plan' : PlanReader) (answer : Result (Option Move) Denial)
     → read_next plan_move (left_of plan.cursor) ≡ (answer, left_of plan'.cursor) → plan_left plan ≡ plan_by answer (plan_left plan')
@@ -23,25 +26,25 @@ unfolding plan_left
 plan-read plan plan' answer e = plan-next (left_of plan.cursor) (left_of plan'.cursor) answer e
 
 module _ {K : Type 0} (key : KeyMeaning K) where
-  pub page-read : (page page' : PageReader) (answer : Result (Option PageRecord) Denial)
+  pub page-read : (page page' : PageReader) {answer next : Result (Option (PageRecord (Bor (List ℕ)))) Denial}
       → read_next (page_entry key.reading page.requested) (left_of page.cursor) ≡ (valued entry_of answer, left_of page'.cursor)
-      → page'.requested ≡ requested_by page.requested (valued entry_of answer)
-      → page_left key page ≡ page_by key.reading (valued entry_of answer) (page_left key page')
+      → page'.requested ≡ requested_by page.requested (valued entry_of answer) → answer ≡ next
+      → page_left key page ≡ page_by key.reading (valued entry_of next) (page_left key page')
   unfolding page_left
-  page-read page page' answer e r = page-next key.reading page.requested page'.requested (left_of page.cursor) (left_of page'.cursor) (valued entry_of answer) e r
+  page-read page page' {answer} {next} e r was =
+      page-next key.reading page.requested page'.requested (left_of page.cursor) (left_of page'.cursor) (valued entry_of answer) e r
+      ∙ ap (λ a. page_by key.reading (valued entry_of a) (page_left key page')) was
 
-  -- a record whose key has a value, and one whose key has none
-  pub valued-ok : (entry : Entry) (o : Option key.Value) (given : Item key.Value) (behind : List (Item key.Value) × Option Denial)
-      → item_by key entry o ≡ Ok given → valued_with entry o behind ≡ with given behind
-  valued-ok entry (Some v) given behind e = let same : ◌≡◌ {A = Item key.Value} _ given = cc in ap (λ g. with g behind) same
-  valued-ok entry None given behind e = let z : ◌≡◌ {A = ℕ} 0 1 = cc in absurd (omega arith)
+  item-with : (given : PageRecord (Bor (List ℕ))) (k : K) → item_of key (record_with given k) ≡ item (entry_of given).asks (key.value k)
+  item-with (First s) k = refl
+  item-with (Asked (Lookup s)) k = refl
+  item-with (Asked (Add s)) k = refl
+  item-with (Asked (Remove s)) k = refl
 
-  pub valued-err : (entry : Entry) (o : Option key.Value) (denial : Denial) (behind : List (Item key.Value) × Option Denial)
-      → item_by key entry o ≡ Err denial → valued_with entry o behind ≡ ([], Some denial)
-  valued-err entry (Some v) denial behind e = let z : ◌≡◌ {A = ℕ} 0 1 = cc in absurd (omega arith)
-  valued-err entry None denial behind e = cc
-
-  -- a page that is broken where it is read
-  pub broken-read : (page page' : PageReader) (denial : Denial) {result : Result (Option (ReadRecord K)) Denial} → result ≡ Err denial → page_left key page ≡ ([], Some denial)
-      → (page_left key page ≡ read_by key result (page_left key page')) × Advanced result page page'
-  broken-read page page' denial e left = (left ∙ ap (λ r. read_by key r (page_left key page')) (sym e), subst (λ r. Advanced r page page') (sym e) tt)
+  -- a record whose spelling has a value
+  pub valued-ok : (given : PageRecord (Bor (List ℕ))) (o : Option key.Value) (k : K) (behind : List (Item key.Value) × Option Denial)
+      → Ok (key.value k) ≡ read_as o → valued_with (entry_of given) o behind ≡ with (item_of key (record_with given k)) behind
+  valued-ok given (Some v) k behind e =
+      let same : v ≡ key.value k = cc in
+      ap (λ v. with (item (entry_of given).asks v) behind) same ∙ ap (λ i. with i behind) (sym (item-with given k))
+  valued-ok given None k behind e = let z : ⊥ = cc in absurd z

@@ -2,7 +2,7 @@
 -- Only contracts of inner functions cite these.
 use Rattle.std.specs.Prelude.{◌≡◌, ℕ, ◌+◌, ◌<◌, ◌≤◌, cond, List, [], length, Some, None, Ok, Err, Option, Result, ◌==◌}
 use Rattle.keys.specs.declared.denial.Denial.{Denial}
-use Rattle.keys.specs.declared.denial.Denial.TheVariants.{Layout, Misfit}
+use Rattle.keys.specs.declared.denial.Denial.TheVariants.{Misfit}
 use Rattle.keys.specs.declared.key.Key.{Ghosts as KeyMeaning}
 use Rattle.lines.specs.declared.Line.{Ghosts as LineMeaning}
 use Rattle.reckoning.specs.Reckoning.{start}
@@ -17,13 +17,12 @@ use Rattle.logs.specs.declared.plans.Move.{Move}
 use Rattle.logs.specs.Framing.{read_next, gained}
 use Rattle.logs.specs.Cursors.{left_of, passed_of}
 use Rattle.logs.specs.Records.{with}
-use Rattle.logs.specs.Pages.{Entry}
-use Rattle.logs.specs.Items.{Asked, Item, lookup, add, remove, first, request, item, page_items_from}
+use Rattle.logs.specs.Items.{Asked, Item, lookup, add, remove, first, request, page_items_from}
 use Rattle.logs.specs.Plans.{plan_move, plan_moves}
-use Rattle.turns.specs.declared.entry.Asked.{Asked as ReadRequest}
-use Rattle.turns.specs.declared.entry.Asked.TheVariants.{Lookup, Add, Remove}
-use Rattle.turns.specs.declared.entry.Entry.{Entry as ReadRecord}
-use Rattle.turns.specs.declared.entry.Entry.TheVariants.{First, Request}
+use Rattle.logs.specs.declared.pages.Request.{Request as ReadRequest}
+use Rattle.logs.specs.declared.pages.Request.TheVariants.{Lookup, Add, Remove}
+use Rattle.logs.specs.declared.pages.PageRecord.{PageRecord as ReadRecord}
+use Rattle.logs.specs.declared.pages.PageRecord.TheVariants.{First, Request}
 use Rattle.acceptance.specs.Scripts.{Script, fault_on, calling, requesting, asking, ending, serving, loading}
 use Rattle.acceptance.specs.Judgement.{goal_log, number_in, played}
 
@@ -47,13 +46,6 @@ taken_move at (Err denial) = Err (fault_on Plan at denial)
 abbrev pub left_over : ℕ → List ℕ → Result (Unit {0}) Fault
 left_over at bytes = cond (length bytes == 0) (Ok tt) (Err (fault_on Plan at Misfit))
 
--- the request that a page gives next, at a record; no first key may follow a request
-abbrev pub request_by : {K : Type 0} → ℕ → Result (Option (ReadRecord K)) Denial → Result (Option (ReadRequest K)) Fault
-request_by at (Ok None) = Ok None
-request_by at (Ok (Some (First k))) = Err (fault_on Page at Layout)
-request_by at (Ok (Some (Request asked))) = Ok (Some asked)
-request_by at (Err denial) = Err (fault_on Page at denial)
-
 -- what a reader has still to give
 unfoldable pub plan_left : PlanReader → List Move × Option Denial
 plan_left plan = plan_moves (left_of plan.cursor)
@@ -71,14 +63,6 @@ module _ {K : Type 0} (key : KeyMeaning K) where
   abbrev pub item_of : ReadRecord K → Item key.Value
   item_of (First k) = first (key.value k)
   item_of (Request asked) = request (asked_of asked)
-
-  -- a record by the value that its spelling has
-  abbrev pub item_by : Entry → Option key.Value → Result (Item key.Value) Denial
-  item_by entry (Some v) = Ok (item entry.asks v)
-  item_by entry None = Err Layout
-
-  abbrev pub read_item : Entry → Result (Item key.Value) Denial
-  read_item entry = item_by entry (key.reading entry.spelling)
 
   -- what was left of a page, by what was read next and what is left behind it
   abbrev pub read_by : Result (Option (ReadRecord K)) Denial → List (Item key.Value) × Option Denial → List (Item key.Value) × Option Denial
@@ -132,6 +116,13 @@ module _ {K : Type 0} (key : KeyMeaning K) where
 
   abbrev pub awaiting_from : Option (ReadRequest K) → PageReader → ℕ → List Move × Option Denial → Script key.Value
   awaiting_from next page read plan = awaiting (next_of next) (passed_of page.cursor) (page_left key page) read plan
+
+  -- a reader of a page was asked for its next record, and this was made of its answer
+  pub record EntryTaken (result : Result (Option (ReadRecord K)) Fault) (page page' : PageReader) : Type 0 where
+    pub answer : Result (Option (ReadRecord K)) Denial
+    pub read : page_left key page ≡ read_by key answer (page_left key page')
+    pub advanced : Advanced answer page page'
+    pub takes : result ≡ said_of Page (passed_of page.cursor + 1) answer
 
   -- a page was read on: whatever the plan, its next request or its end comes next
   pub record ReadOn (result : Result (Option (ReadRequest K)) Fault) (page page' : PageReader) : Type 0 where

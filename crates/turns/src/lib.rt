@@ -5,6 +5,6 @@ pub mod blame;
 pub mod entry;
 pub mod plays;
 
-pub use blame::{said_of, said_of_request};
-pub use entry::{Asked, Entry, next_entry};
+pub use blame::{Records, said_of, said_of_request};
+pub use entry::next_entry;
 pub use plays::{make_request, serve};

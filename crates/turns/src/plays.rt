@@ -1,64 +1,47 @@
 // A request, as page and plan give it: the plan's exchanges, and then the request with its goal.
 ghost use Rattle.std.specs.Prelude.{◌≡◌};
 ghost use Rattle.acceptance.specs.Scripts.{Script, requesting};
-ghost use Rattle.turns.specs.Onward.{asked_of, taken_move, Taken, resuming, Continues, UpToGoal, Serves};
+ghost use Rattle.turns.specs.Onward.{asked_of, Taken, resuming, Continues, UpToGoal, Serves};
 
-use super::blame::{said_of, said_of_request};
-use super::entry::Asked;
+use super::blame::{Records, said_of, said_of_request};
 use bench::Running;
 use keys::{Denial, Key};
 use lines::{Line, Orderly};
-use logs::{Fault, Log, Move, PlanReader};
+use logs::{Fault, Log, Move, PlanReader, Request};
 
-// Makes a request with its goal; the numbers are those of its record in the page and of its goal's in the plan.
+// Makes a request with its goal; the records are its own in the page and its goal's in the plan.
 pub fn make_request<K: Key, H: Orderly<K>, R: Orderly<K>>(
     bench: &mut Running,
     house: &mut H,
     rival: &mut R,
-    asked: Asked<K>,
+    asked: Request<K>,
     goal: usize,
-    page: usize,
-    plan: usize,
+    records: Records,
 ) -> Result<(), Fault>
     requires { (H.Line.sound house.old) × (R.Line.sound rival.old) }
-    ensures { (rest : Script K.Key.Value) → Continues K.Key.own H.Line R.Line house.old rival.old bench.old.ledger (requesting (asked_of K.Key.own asked) goal page plan rest) house.new rival.new bench.new.ledger (resuming result (λ _. rest)) }
+    ensures { (rest : Script K.Key.Value) → Continues K.Key.own H.Line R.Line house.old rival.old bench.old.ledger (requesting (asked_of K.Key.own asked) goal records.page records.plan rest) house.new rival.new bench.new.ledger (resuming result (λ _. rest)) }
 {
     match asked {
-        Asked::Lookup(key) => said_of_request(bench.lookup(house, rival, key, goal), page, plan),
-        Asked::Add(key) => said_of_request(bench.add(house, rival, key, goal), page, plan),
-        Asked::Remove(key) => {
+        Request::Lookup(key) => said_of_request(bench.lookup(house, rival, key, goal), records),
+        Request::Add(key) => said_of_request(bench.add(house, rival, key, goal), records),
+        Request::Remove(key) => {
             if goal != 0 {
-                return Err(Fault {
-                    denial: Denial::Misfit,
-                    log: Log::Plan,
-                    at: plan,
-                });
+                return said_of(Log::Plan, records.plan, Err(Denial::Misfit));
             }
-            said_of(Log::Page, page, bench.remove(house, rival, key))
+            said_of(Log::Page, records.page, bench.remove(house, rival, key))
         }
     }
 }
 
-// The move that a plan gives next, at a record; where it has ended, the goal is missing.
-fn taken_move(at: usize, next: Result<Option<Move>, Denial>) -> Result<Move, Fault>
-    ensures { result ≡ taken_move at next }
-{
-    let Some(taken) = said_of(Log::Plan, at, next)? else {
-        return Err(Fault {
-            denial: Denial::Misfit,
-            log: Log::Plan,
-            at,
-        });
-    };
-    Ok(taken)
-}
-
-// The next move of a plan.
+// The next move of a plan; where it has ended, the goal is missing.
 fn next_move(plan: &mut PlanReader<'_>) -> Result<Move, Fault>
     ensures { Taken result plan.old plan.new }
 {
     let at = plan.passed() + 1;
-    taken_move(at, plan.next())
+    let Some(taken) = said_of(Log::Plan, at, plan.next())? else {
+        return said_of(Log::Plan, at, Err(Denial::Misfit));
+    };
+    Ok(taken)
 }
 
 // Makes the exchanges that the plan has before its next goal, and gives that goal.
@@ -87,7 +70,7 @@ pub fn serve<K: Key, H: Orderly<K>, R: Orderly<K>>(
     bench: &mut Running,
     house: &mut H,
     rival: &mut R,
-    asked: Asked<K>,
+    asked: Request<K>,
     page: usize,
     plan: &mut PlanReader<'_>,
 ) -> Result<(), Fault>
@@ -95,5 +78,9 @@ pub fn serve<K: Key, H: Orderly<K>, R: Orderly<K>>(
     ensures { Serves K.Key.own H.Line R.Line (asked_of K.Key.own asked) page house.old rival.old bench.old.ledger plan.old result house.new rival.new bench.new.ledger plan.new }
 {
     let goal = play_exchanges(bench, house, rival, plan)?;
-    make_request(bench, house, rival, asked, goal, page, plan.passed())
+    let records = Records {
+        page,
+        plan: plan.passed(),
+    };
+    make_request(bench, house, rival, asked, goal, records)
 }

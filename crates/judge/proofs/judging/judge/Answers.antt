@@ -1,16 +1,12 @@
-use Rattle.std.proofs.Common.{◌≡◌, false, Ok, Err, sym, ap, ◌∙◌}
+use Rattle.std.proofs.Common.{◌≡◌, false, Err, sym, ap, ◌∙◌}
 use Rattle.std.proofs.lemmas.Result.{err_from_is_err_and, IfOk-at_ok}
 use Rattle.keys.specs.Spelling.{meant}
 use Rattle.logs.specs.declared.fault.Log.TheVariants.{Page, Plan}
 use Rattle.logs.specs.declared.pages.PageReader.{PageReader}
 use Rattle.logs.specs.declared.plans.PlanReader.{PlanReader}
-use Rattle.logs.specs.Framing.{versioned}
 use Rattle.logs.specs.Cursors.{left_of, passed_of}
-use Rattle.reckoning.specs.Reckoning.{empty}
-use Rattle.bench.specs.Benches.{limits_of}
-use Rattle.acceptance.specs.Scripts.{fault_on, headed}
-use Rattle.acceptance.specs.Judgement.{played}
-use Rattle.judge.proofs.Verdict.{said-err, said_ok, bench-opened, bench-denied, script-read, judged-header, judged-full, judged-played}
+use Rattle.acceptance.specs.Scripts.{fault_on}
+use Rattle.judge.proofs.Verdict.{said-err, said_ok, bench-opened, bench-denied, script-read, judged-full, judged-played}
 use Rattle.judge.proofs.judging.judge.Goals as goal
 
 pub returns-in_err-bench : goal.returns-in_err-bench
@@ -20,29 +16,6 @@ returns-in_err-bench g c =
     let denied = bench-denied g.K.Key g.H.Line g.R.Line c.args.house.now c.args.rival.now c.open.result said.0 c.open.ensures said.1 in
     judged-full g.K.Key g.H.Line g.R.Line g.met.K.Key.decides c.args.page.now c.args.plan.now c.args.house.now c.args.rival.now c.requires.0 c.requires.1 denied.0
     (p.1 ∙ ap Err (said.2 ∙ ap (fault_on Page 0) denied.1))
-
-pub returns-in_err-page : goal.returns-in_err-page
-returns-in_err-page g c =
-    let p = err_from_is_err_and c.from_residual-in_err-page.result c.from_residual-in_err-page.ensures.1 in
-    let ok = bench-opened g.K.Key g.H.Line g.R.Line c.args.house.now c.args.rival.now c.open.result c.in_ok-bench.bench c.open.ensures (said_ok Page 0 c.open.result _ (sym c.said_of.ensures ∙ c.in_ok-bench.was)) in
-    let said = said-err Page 0 c.open-2.result p.0 (sym c.said_of-2.ensures ∙ c.in_err-page.was ∙ ap Err (sym p.2)) in
-    let head = sym c.open-2.ensures.left ∙ ap (meant (λ (reader : PageReader). left_of reader.cursor)) said.1 in
-    judged-header g.K.Key g.H.Line g.R.Line g.met.K.Key.decides c.args.page.now c.args.plan.now c.args.house.now c.args.rival.now c.in_ok-bench.bench.ledger (fault_on Page 0 said.0) c.requires.0 c.requires.1 ok.0 ok.1
-    (ap (λ head. played g.K.Key.equal (limits_of g.K.Key g.H.Line g.R.Line c.args.house.now c.args.rival.now) empty (headed g.K.Key.reading head (versioned c.args.plan.now))) head)
-    (p.1 ∙ ap Err said.2)
-
-pub returns-in_err-plan : goal.returns-in_err-plan
-returns-in_err-plan g c =
-    let p = err_from_is_err_and c.from_residual-in_err-plan.result c.from_residual-in_err-plan.ensures.1 in
-    let ok = bench-opened g.K.Key g.H.Line g.R.Line c.args.house.now c.args.rival.now c.open.result c.in_ok-bench.bench c.open.ensures (said_ok Page 0 c.open.result _ (sym c.said_of.ensures ∙ c.in_ok-bench.was)) in
-    let read = said_ok Page 0 c.open-2.result c.in_ok-page.page (sym c.said_of-2.ensures ∙ c.in_ok-page.was) in
-    let said = said-err Plan 0 c.open-3.result p.0 (sym c.said_of-3.ensures ∙ c.in_err-plan.was ∙ ap Err (sym p.2)) in
-    let page = sym c.open-2.ensures.left ∙ ap (meant (λ (reader : PageReader). left_of reader.cursor)) read in
-    let plan = sym c.open-3.ensures.left ∙ ap (meant (λ (reader : PlanReader). left_of reader.cursor)) said.1 in
-    let play = played g.K.Key.equal (limits_of g.K.Key g.H.Line g.R.Line c.args.house.now c.args.rival.now) empty in
-    judged-header g.K.Key g.H.Line g.R.Line g.met.K.Key.decides c.args.page.now c.args.plan.now c.args.house.now c.args.rival.now c.in_ok-bench.bench.ledger (fault_on Plan 0 said.0) c.requires.0 c.requires.1 ok.0 ok.1
-    (ap (λ head. play (headed g.K.Key.reading head (versioned c.args.plan.now))) page ∙ ap (λ head. play (headed g.K.Key.reading (Ok (left_of c.in_ok-page.page.cursor)) head)) plan)
-    (p.1 ∙ ap Err said.2)
 
 pub returns : goal.returns
 returns g c =
