@@ -48,10 +48,10 @@ module _ {K : Type 0} (key : KeyMeaning K) where
 -- a first key that the page gave was loaded
 pub load-made : {K H R : Type 0} (key : KeyMeaning K) (house : LineMeaning H K) (rival : LineMeaning R K) (h h' : H) (r r' : R) (ledger ledger' : Ledger) (page page' : PageReader) {at : ℕ} (k : K)
     (answer : Result (Unit {0}) Denial) {said next : Result (Unit {0}) Fault}
-    → house.sound h → rival.sound r → ((plan : List Move × Option Denial) → loading_from key page plan ≡ entering_from key (Some (First k)) page' plan)
+    → ((plan : List Move × Option Denial) → loading_from key page plan ≡ entering_from key (Some (First k)) page' plan)
     → Called key house rival (load (key.value k)) h r ledger answer h' r' ledger' → at ≡ passed_of page'.cursor → said ≡ said_of Page at answer → said ≡ next
     → (plan : List Move × Option Denial) → Continues key house rival h r ledger (loading_from key page plan) h' r' ledger' (resuming next (λ _. loading_from key page' plan))
-load-made key house rival h h' r r' ledger ledger' page page' k answer sh sr entered called n s was plan =
+load-made key house rival h h' r r' ledger ledger' page page' k answer entered called n s was plan =
     let at = passed_of page'.cursor in
-    goes_on key house rival (stays key house rival h r ledger _ _ sh sr (entered plan))
+    goes_on key house rival (stays key house rival h r ledger _ _ (entered plan))
     (called_on key house rival (load (key.value k)) at 0 h r ledger answer h' r' ledger' called (sym was ∙ s ∙ ap (λ n. said_of Page n answer) n ∙ held-load (key.value k) at 0 answer) (loading_from key page' plan))

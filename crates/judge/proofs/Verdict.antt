@@ -38,15 +38,13 @@ module _ {K H R : Type 0} (key : KeyMeaning K) (house : LineMeaning H K) (rival 
   accepted-since (Err fault) s e answer n ledger a = let z : ⊥ = cc in absurd z
 
   pub judged-so : (h' : H) (r' : R) (answer : Result Ledger Fault) (answered : Result (Unit {0}) Fault) (s : State key.Value)
-      → house.sound h' → rival.sound r' → limits_of key house rival h' r' ≡ limits_of key house rival h r → both_empty (house.keys h) (rival.keys r) ≡ true
+      → limits_of key house rival h' r' ≡ limits_of key house rival h r → both_empty (house.keys h) (rival.keys r) ≡ true
       → judged key.equal key.reading key.LETTER (limits_of key house rival h r) page plan ≡ (answered, s)
       → outcome (answered, s) ≡ (numbers_of answer, (values_of key (house.keys h'), values_of key (rival.keys r')))
       → Judged key house rival page plan h r answer h' r'
-  judged-so h' r' answer answered s sh sr limits void e g =
+  judged-so h' r' answer answered s limits void e g =
       let accepted = accepted-since answered s e answer (sym (ap (λ (j : Result Sums Fault × (List key.Value × List key.Value)). j.0) g)) in
       record {
-        house_sound = sh;
-        rival_sound = sr;
         limits = limits;
         gives = cond-true _ _ _ void ∙ ap outcome e ∙ g;
         untouched = λ full. let z : true ≡ false = sym void ∙ full in let y : ⊥ = cc in absurd y;
@@ -61,10 +59,8 @@ module _ {K H R : Type 0} (key : KeyMeaning K) (house : LineMeaning H K) (rival 
       }
 
   -- on lines that hold keys nothing is done
-  pub judged-full : {answer : Result Ledger Fault} → house.sound h → rival.sound r → both_empty (house.keys h) (rival.keys r) ≡ false → answer ≡ Err (fault_on Page 0 NotEmpty) → Judged key house rival page plan h r answer h r
-  judged-full {answer} sh sr full a = record {
-    house_sound = sh;
-    rival_sound = sr;
+  pub judged-full : {answer : Result Ledger Fault} → both_empty (house.keys h) (rival.keys r) ≡ false → answer ≡ Err (fault_on Page 0 NotEmpty) → Judged key house rival page plan h r answer h r
+  judged-full {answer} full a = record {
     limits = refl;
     gives = cond-false _ _ _ full ∙ ap (λ n. (n, (values_of key (house.keys h), values_of key (rival.keys r)))) (sym (ap numbers_of a));
     untouched = λ _. (refl, refl);
@@ -142,6 +138,6 @@ module _ {K H R : Type 0} (key : KeyMeaning K) (house : LineMeaning H K) (rival 
   judged-played decides page plan ledger reader reader' answer h' r' void fresh script out =
       let limits = limits_of key house rival h r in
       judged-so key house rival decides page plan h r h' r' answer (outcome_of answer) (bench_of key house rival h' r' out.ledger')
-      out.continues.house_sound out.continues.rival_sound out.continues.limits void
+      out.continues.limits void
       (ap (played key.equal limits empty) script ∙ ap (λ s. played key.equal limits s (loading_from key reader (plan_left reader'))) (sym fresh) ∙ out.continues.onward ∙ last-played h' r' out.ledger' answer)
       (given-last h' r' out.ledger' answer out.gives)

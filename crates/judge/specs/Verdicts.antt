@@ -39,8 +39,6 @@ module _ {K H R : Type 0} (key : KeyMeaning K) (house : LineMeaning H K) (rival 
 
   -- two logs were judged on the lines h and r, which were left as h' and r'
   pub record Judged (page plan : List ℕ) (h : H) (r : R) (answer : Result Ledger Fault) (h' : H) (r' : R) : Type 0 where
-    pub house_sound : house.sound h'
-    pub rival_sound : rival.sound r'
     pub limits : limits_of key house rival h' r' ≡ limits_of key house rival h r
     -- the answer and the orders are the definition's
     pub gives : verdict h r page plan ≡ (numbers_of answer, (values_of key (house.keys h'), values_of key (rival.keys r')))

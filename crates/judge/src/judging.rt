@@ -29,8 +29,7 @@ fn play_logs<K: Key, H: Orderly<K>, R: Orderly<K>>(
     mut page: PageReader<'_>,
     mut plan: PlanReader<'_>,
 ) -> Result<Ledger, Fault>
-    requires sound { (H.Line.sound house.old) × (R.Line.sound rival.old) }
-    requires fresh { passed_of plan.cursor ≡ 0 }
+    requires { passed_of plan.cursor ≡ 0 }
     ensures { PlayedOut K.Key.own H.Line R.Line house.old rival.old bench.ledger page.entry plan.entry result house.new rival.new }
 {
     let first = load_all(&mut bench, house, rival, &mut page)?;
@@ -49,7 +48,6 @@ pub fn judge<K: Key, H: Orderly<K>, R: Orderly<K>>(
     page: &[u8],
     plan: &[u8],
 ) -> Result<Ledger, Fault>
-    requires { (H.Line.sound house.old) × (R.Line.sound rival.old) }
     ensures { Judged K.Key.own H.Line R.Line page.now plan.now house.old rival.old result house.new rival.new }
 {
     let bench = said_of(Log::Page, 0, Loading::open(house, rival))?;

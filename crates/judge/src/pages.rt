@@ -23,7 +23,6 @@ pub(crate) fn load_all<K: Key, H: Orderly<K>, R: Orderly<K>>(
     rival: &mut R,
     page: &mut PageReader<'_>,
 ) -> Result<Option<Request<K>>, Fault>
-    requires { (H.Line.sound house.old) × (R.Line.sound rival.old) }
     ensures { Loads K.Key.own H.Line R.Line house.old rival.old bench.old.ledger page.old result house.new rival.new bench.new.ledger page.new }
 {
     loop {
@@ -60,7 +59,6 @@ pub(crate) fn serve_all<K: Key, H: Orderly<K>, R: Orderly<K>>(
     plan: &mut PlanReader<'_>,
     first: Option<Request<K>>,
 ) -> Result<(), Fault>
-    requires { (H.Line.sound house.old) × (R.Line.sound rival.old) }
     ensures { ServesAll K.Key.own H.Line R.Line first house.old rival.old bench.old.ledger page.old plan.old result house.new rival.new bench.new.ledger plan.new }
 {
     let mut next = first;

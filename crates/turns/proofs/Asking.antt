@@ -45,12 +45,12 @@ module _ {V : Type 0} (asked : Asked V) (page : ℕ) (onward : ℕ → List Move
 -- an exchange that the plan gave was made
 pub exchange-made : {K H R : Type 0} (key : KeyMeaning K) (house : LineMeaning H K) (rival : LineMeaning R K) (h : H) (r r' : R) (ledger ledger' : Ledger) (plan plan' : PlanReader) {taken : Result Move Fault} (place : ℕ)
     (answer : Result (Unit {0}) Denial) {at : ℕ} {said next : Result (Unit {0}) Fault}
-    → house.sound h → rival.sound r → Taken taken plan plan' → taken ≡ Ok (Exchange place) → Called key house rival (exchange place) h r ledger answer h r' ledger' → at ≡ passed_of plan'.cursor → said ≡ said_of Plan at answer → said ≡ next
+    → Taken taken plan plan' → taken ≡ Ok (Exchange place) → Called key house rival (exchange place) h r ledger answer h r' ledger' → at ≡ passed_of plan'.cursor → said ≡ said_of Plan at answer → said ≡ next
     → (asked : Asked key.Value) (page : ℕ) (onward : ℕ → List Move → Option Denial → Script key.Value)
     → Continues key house rival h r ledger (asking_from asked page onward plan) h r' ledger' (resuming next (λ _. asking_from asked page onward plan'))
-exchange-made key house rival h r r' ledger ledger' plan plan' place answer sh sr t e called n s was asked page onward =
+exchange-made key house rival h r r' ledger ledger' plan plan' place answer t e called n s was asked page onward =
     let read = passed_of plan'.cursor in
-    goes_on key house rival (stays key house rival h r ledger _ _ sh sr (move_taken asked page onward plan plan' t e))
+    goes_on key house rival (stays key house rival h r ledger _ _ (move_taken asked page onward plan plan' t e))
     (called_on key house rival (exchange place) page read h r ledger answer h r' ledger' called (sym was ∙ s ∙ ap (λ n. said_of Plan n answer) n ∙ held-exchange key.Value place page read answer) (asking_from asked page onward plan'))
 
 module _ {K H R : Type 0} (key : KeyMeaning K) (house : LineMeaning H K) (rival : LineMeaning R K) where

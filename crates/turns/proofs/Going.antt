@@ -43,8 +43,6 @@ module _ {K H R : Type 0} (key : KeyMeaning K) (house : LineMeaning H K) (rival 
       let limits = limits_of key house rival h r in
       let after = bench_of key house rival h' r' ledger' in
       record {
-        house_sound = called.house_sound;
-        rival_sound = called.rival_sound;
         limits = called.limits;
         onward =
             ap (λ done. settling (spelled_at call page plan) done (λ s. played key.equal limits s rest)) called.made.reckons
@@ -53,10 +51,8 @@ module _ {K H R : Type 0} (key : KeyMeaning K) (house : LineMeaning H K) (rival 
       }
 
   -- nothing done, and the same script
-  pub stays : (h : H) (r : R) (ledger : Ledger) (script script' : Script key.Value) → house.sound h → rival.sound r → script ≡ script' → Continues key house rival h r ledger script h r ledger script'
-  stays h r ledger script script' sh sr e = record {
-    house_sound = sh;
-    rival_sound = sr;
+  pub stays : (h : H) (r : R) (ledger : Ledger) (script script' : Script key.Value) → script ≡ script' → Continues key house rival h r ledger script h r ledger script'
+  stays h r ledger script script' e = record {
     limits = refl;
     onward = ap (played key.equal (limits_of key house rival h r) (bench_of key house rival h r ledger)) e;
   }
@@ -65,8 +61,6 @@ module _ {K H R : Type 0} (key : KeyMeaning K) (house : LineMeaning H K) (rival 
   pub goes_on : {h h' h'' : H} {r r' r'' : R} {ledger ledger' ledger'' : Ledger} {script script' script'' : Script key.Value}
       → Continues key house rival h r ledger script h' r' ledger' script' → Continues key house rival h' r' ledger' script' h'' r'' ledger'' script'' → Continues key house rival h r ledger script h'' r'' ledger'' script''
   goes_on {h} {h'} {h''} {r} {r'} {r''} {ledger} {ledger'} {ledger''} {script} {script'} {script''} a b = record {
-    house_sound = b.house_sound;
-    rival_sound = b.rival_sound;
     limits = b.limits ∙ a.limits;
     onward =
         a.onward

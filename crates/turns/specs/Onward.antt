@@ -131,10 +131,8 @@ module _ {K : Type 0} (key : KeyMeaning K) where
     pub ends : result ≡ Ok None → length (left_of page'.cursor) ≤ length (left_of page.cursor)
 
 module _ {K H R : Type 0} (key : KeyMeaning K) (house : LineMeaning H K) (rival : LineMeaning R K) where
-  -- playing a script on a bench comes down to playing another on the bench that was left: sound lines, with their limits
+  -- playing a script on a bench comes down to playing another on the bench that was left: lines with their limits
   pub record Continues (h : H) (r : R) (ledger : Ledger) (script : Script key.Value) (h' : H) (r' : R) (ledger' : Ledger) (script' : Script key.Value) : Type 0 where
-    pub house_sound : house.sound h'
-    pub rival_sound : rival.sound r'
     pub limits : limits_of key house rival h' r' ≡ limits_of key house rival h r
     pub onward :
         played key.equal (limits_of key house rival h r) (bench_of key house rival h r ledger) script

@@ -18,7 +18,6 @@ pub fn make_request<K: Key, H: Orderly<K>, R: Orderly<K>>(
     goal: usize,
     records: Records,
 ) -> Result<(), Fault>
-    requires { (H.Line.sound house.old) × (R.Line.sound rival.old) }
     ensures { (rest : Script K.Key.Value) → Continues K.Key.own H.Line R.Line house.old rival.old bench.old.ledger (requesting (asked_of K.Key.own asked) goal records.page records.plan rest) house.new rival.new bench.new.ledger (resuming result (λ _. rest)) }
 {
     match asked {
@@ -51,7 +50,6 @@ fn play_exchanges<K: Key, H: Orderly<K>, R: Orderly<K>>(
     rival: &mut R,
     plan: &mut PlanReader<'_>,
 ) -> Result<usize, Fault>
-    requires { (H.Line.sound house.now) × (R.Line.sound rival.old) }
     ensures { UpToGoal K.Key.own H.Line R.Line house.now rival.old bench.old.ledger plan.old result rival.new bench.new.ledger plan.new }
 {
     loop {
@@ -74,7 +72,6 @@ pub fn serve<K: Key, H: Orderly<K>, R: Orderly<K>>(
     page: usize,
     plan: &mut PlanReader<'_>,
 ) -> Result<(), Fault>
-    requires { (H.Line.sound house.old) × (R.Line.sound rival.old) }
     ensures { Serves K.Key.own H.Line R.Line (asked_of K.Key.own asked) page house.old rival.old bench.old.ledger plan.old result house.new rival.new bench.new.ledger plan.new }
 {
     let goal = play_exchanges(bench, house, rival, plan)?;

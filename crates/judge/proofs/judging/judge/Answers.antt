@@ -14,7 +14,7 @@ returns-in_err-bench g c =
     let p = err_from_is_err_and c.from_residual.result c.from_residual.ensures.1 in
     let said = said-err Page 0 c.open.result p.0 (sym c.said_of.ensures ∙ c.in_err-bench.was ∙ ap Err (sym p.2)) in
     let denied = bench-denied g.K.Key g.H.Line g.R.Line c.args.house.now c.args.rival.now c.open.result said.0 c.open.ensures said.1 in
-    judged-full g.K.Key g.H.Line g.R.Line g.met.K.Key.decides c.args.page.now c.args.plan.now c.args.house.now c.args.rival.now c.requires.0 c.requires.1 denied.0
+    judged-full g.K.Key g.H.Line g.R.Line g.met.K.Key.decides c.args.page.now c.args.plan.now c.args.house.now c.args.rival.now denied.0
     (p.1 ∙ ap Err (said.2 ∙ ap (fault_on Page 0) denied.1))
 
 pub returns : goal.returns

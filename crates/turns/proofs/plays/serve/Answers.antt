@@ -3,7 +3,7 @@ use Rattle.std.proofs.lemmas.Result.{err_from_is_err_and}
 use Rattle.logs.specs.Cursors.{passed_of}
 use Rattle.acceptance.specs.Scripts.{requesting}
 use Rattle.turns.specs.Onward.{asked_of, resuming, going_from}
-use Rattle.turns.proofs.Going.{goes_on, so, faulted, nothing}
+use Rattle.turns.proofs.Going.{goes_on, so, faulted}
 use Rattle.turns.proofs.plays.serve.Goals as goal
 
 pub returns-in_err-goal : goal.returns-in_err-goal
@@ -11,9 +11,6 @@ returns-in_err-goal g c = λ onward.
     let p = err_from_is_err_and c.from_residual.result c.from_residual.ensures.1 in
     let was = c.in_err-goal.was ∙ ap Err (sym p.2) in
     so g.K.Key g.H.Line g.R.Line (c.play_exchanges.ensures (asked_of g.K.Key c.args.asked) c.args.page onward) (faulted p.0 _ _ was p.1)
-
-pub make_request-requires : goal.make_request-requires
-make_request-requires g c = (c.requires.0, (c.play_exchanges.ensures (asked_of g.K.Key c.args.asked) c.args.page (λ _ _ _. nothing)).rival_sound)
 
 pub returns : goal.returns
 returns g c = λ onward.
