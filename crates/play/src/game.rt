@@ -1,9 +1,8 @@
 // The bench that a script is played on, with its two lines.
 ghost use Rattle.std.specs.Prelude.{◌≡◌, []};
-ghost use Rattle.play.specs.Playing.{ledger_of};
 
 use super::standing::Standing;
-use bench::{Ledger, Loading};
+use bench::Loading;
 use keys::Key;
 use lines::Orderly;
 use script::{Call, Refusal};

@@ -7,7 +7,7 @@ use script::{Make, Plan};
 use std::io;
 
 // Makes the two lines, each over cells of its own, and plays the calls.
-pub(crate) fn seat<K: Key + Clone>(
+pub(crate) fn seat<K: Key>(
     rt: &HostRuntime,
     house: Plan,
     rival: Plan,
