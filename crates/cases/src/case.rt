@@ -23,9 +23,10 @@ fn read_best(word: &str) -> Result<Option<u32>, Fault> {
     if word == "none" {
         return Ok(None);
     }
-    match read_number(word) {
-        Some(best) if best <= u32::MAX as usize => Ok(Some(best as u32)),
-        _ => Err(Fault::NoCall),
+    let best = read_number(word).ok_or(Fault::NoCall)?;
+    match u32::try_from(best) {
+        Ok(best) => Ok(Some(best)),
+        Err(_) => Err(Fault::NoCall),
     }
 }
 

@@ -18,7 +18,7 @@ fn run_case(rt: &HostRuntime, case: &Case) -> io::Result<()> {
     let mut text = [0; 128];
     // Any text fits 128 bytes.
     let len = write_output(&case.page, &case.plan, case.best, &mut text).unwrap();
-    rt.println(OneLine(&text[0..len]))
+    rt.println(OneLine(&text[..len]))
 }
 
 // Runs the case that a line of the table has, and says so where it has none.

@@ -16,9 +16,7 @@ ledger_of (Running bench) = bench.ledger
 ledger_of (Closed bench) = bench.ledger
 
 module _ {K H R : Type 0} (key : KeyMeaning K) (house : LineMeaning H K) (rival : LineMeaning R K) where
-  -- the lines are sound, the bench is as some calls leave it, and so it keeps the twice bound
+  -- the bench is as some calls leave it, and so it keeps the twice bound
   pub record Playing (h : H) (r : R) (ledger : Ledger) : Type 0 where
-    pub house_sound : house.sound h
-    pub rival_sound : rival.sound r
     pub history : (calls : List (Call key.Value)) × (bench_of key house rival h r ledger ≡ reckoned key.equal (limits_of key house rival h r) calls)
     pub bounded : Twice (sums_of ledger)

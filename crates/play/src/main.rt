@@ -1,6 +1,7 @@
 // Plays a script on a bench.
 #![tactic(auto)]
 
+mod game;
 mod playing;
 mod seats;
 mod show;
@@ -8,7 +9,7 @@ mod standing;
 
 use keys::{Code, Name};
 use script::{Kind, Opening};
-use seats::seat_both;
+use seats::seat;
 use std::io;
 
 fn main(rt: HostRuntime) -> io::Result<()> {
@@ -21,13 +22,13 @@ fn main(rt: HostRuntime) -> io::Result<()> {
     let house = opening.house();
     let rival = opening.rival();
     match opening.kind() {
-        Kind::Codes => seat_both(&rt, house, rival, Code { number: 0 }, calls),
+        Kind::Codes => seat(&rt, house, rival, Code { number: 0 }, calls),
         Kind::Names => {
             let filler = Name {
                 bytes: [b'-'; 16],
                 len: 1,
             };
-            seat_both(&rt, house, rival, filler, calls)
+            seat(&rt, house, rival, filler, calls)
         }
     }
 }

@@ -2,8 +2,8 @@
 ghost use Rattle.std.specs.Prelude.{◌≡◌, ◌+◌, ◌*◌, ◌≤◌};
 ghost use Rattle.reckoning.specs.Twice.{Twice};
 ghost use Rattle.bench.specs.Benches.{sums_of};
-ghost use Rattle.play.specs.Playing.{Playing};
 
+use super::game::Game;
 use bench::Ledger;
 use keys::Key;
 use lines::Orderly;
@@ -33,32 +33,27 @@ impl Bound {
 
 // The order of a side, as spellings in hex.
 fn print_order<K: Key, L: Orderly<K>>(rt: &HostRuntime, side: &str, line: &L) -> io::Result<()>
-    requires { L.Line.sound line.now }
 {
     let order = order_text(rt.alloc(), line)?;
     println!(rt; "{side}-order{order}")
 }
 
-// The numbers of a bench, the two sides of its bound, and the order of its lines.
-pub(crate) fn report<K: Key, H: Orderly<K>, R: Orderly<K>>(
-    rt: &HostRuntime,
-    ledger: Ledger,
-    house: &H,
-    rival: &R,
-) -> io::Result<()>
-    requires { Playing K.Key.own H.Line R.Line house.now rival.now ledger }
-{
-    let Ledger {
-        requests,
-        house: walked,
-        rival: followed,
-        paid,
-        free,
-    } = ledger;
-    let Bound { left, right } = Bound::of(ledger);
-    println!(rt;
-        "requests {requests}\nhouse {walked}\nrival {followed}\npaid {paid}\nfree {free}\nbound {left} <= {right}"
-    )?;
-    print_order(rt, "house", house)?;
-    print_order(rt, "rival", rival)
+impl<K: Key, H: Orderly<K>, R: Orderly<K>> Game<K, H, R> {
+    // The numbers of the bench, the two sides of its bound, and the order of its lines.
+    pub(crate) fn report(&self, rt: &HostRuntime) -> io::Result<()> {
+        let ledger = self.standing.ledger();
+        let Ledger {
+            requests,
+            house,
+            rival,
+            paid,
+            free,
+        } = ledger;
+        let Bound { left, right } = Bound::of(ledger);
+        println!(rt;
+            "requests {requests}\nhouse {house}\nrival {rival}\npaid {paid}\nfree {free}\nbound {left} <= {right}"
+        )?;
+        print_order(rt, "house", &self.house)?;
+        print_order(rt, "rival", &self.rival)
+    }
 }

@@ -1,4 +1,3 @@
 mod Hex
 mod Numbers
 mod Orders
-mod Spellings

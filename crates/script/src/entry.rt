@@ -1,8 +1,10 @@
 // The script: what each of its lines says.
 ghost use Rattle.std.specs.Prelude.{◌≤◌, IfOk};
+ghost use Rattle.script.specs.Said.{letter_of, word_of, IsReadBy};
 
 use super::words::{Fault, read_hex, read_number};
 use std::alloc::{AllocError, Global};
+use std::str::FromStr;
 
 // The two kinds of key.
 #[derive(Clone, Copy)]
@@ -11,11 +13,41 @@ pub enum Kind {
     Names,
 }
 
+// A kind is read from its letter.
+impl FromStr for Kind {
+    type Err = Fault;
+
+    ghost from_str_gives = { IsReadBy letter_of };
+
+    fn from_str(letter: &str) -> Result<Kind, Fault> {
+        match letter {
+            "C" => Ok(Kind::Codes),
+            "N" => Ok(Kind::Names),
+            _ => Err(Fault::NoCall),
+        }
+    }
+}
+
 // The two makes of line.
 #[derive(Clone, Copy)]
 pub enum Make {
     Row,
     Chain,
+}
+
+// A make is read from its word.
+impl FromStr for Make {
+    type Err = Fault;
+
+    ghost from_str_gives = { IsReadBy word_of };
+
+    fn from_str(word: &str) -> Result<Make, Fault> {
+        match word {
+            "row" => Ok(Make::Row),
+            "chain" => Ok(Make::Chain),
+            _ => Err(Fault::NoCall),
+        }
+    }
 }
 
 // A line to open a bench on: its make, and how many cells it gets.
@@ -52,24 +84,11 @@ pub enum Entry {
     Calling(Call),
 }
 
-// The letter of a kind.
-fn read_kind(letter: &str) -> Result<Term, Fault> {
-    match letter {
-        "C" => Ok(Term::Keys(Kind::Codes)),
-        "N" => Ok(Term::Keys(Kind::Names)),
-        _ => Err(Fault::NoCall),
-    }
-}
-
 // A make and a number of cells, at most 300.
 fn read_plan(make: &str, cells: &str) -> Result<Plan, Fault>
     ensures { IfOk result (λ plan. plan.cells ≤ 300) }
 {
-    let make = match make {
-        "row" => Make::Row,
-        "chain" => Make::Chain,
-        _ => return Err(Fault::NoCall),
-    };
+    let make = make.parse()?;
     match read_number(cells) {
         Some(cells) if cells <= 300 => Ok(Plan { make, cells }),
         _ => Err(Fault::NoCall),
@@ -84,7 +103,7 @@ fn read_place(word: &str) -> Result<usize, Fault> {
 // The words of an opening line.
 fn read_term(words: &[&str]) -> Result<Term, Fault> {
     match words {
-        ["kind", letter] => read_kind(letter),
+        ["kind", letter] => Ok(Term::Keys(letter.parse()?)),
         ["house", make, cells] => Ok(Term::House(read_plan(make, cells)?)),
         ["rival", make, cells] => Ok(Term::Rival(read_plan(make, cells)?)),
         _ => Err(Fault::NoCall),

@@ -9,5 +9,5 @@ pub mod words;
 
 pub use entry::{Call, Entry, Kind, Make, Plan, Term, read_entry};
 pub use opening::Opening;
-pub use outcome::{Outcome, answer};
+pub use outcome::{Refusal, answer};
 pub use spelled::{keys_of, order_text, spell};

@@ -1,12 +1,12 @@
 // How the bench of a script is opened.
-ghost use Rattle.std.specs.Prelude.{◌≡◌, ◌≤◌, length, IfOk, Some, None, MatchOption};
+ghost use Rattle.std.specs.Prelude.{◌≡◌, ◌≤◌, length, IfOk, Some, None, Ok, Err, MatchOption};
 ghost use Rattle.std.specs.Option.{unwrap_or};
 ghost use Rattle.script.specs.declared.entry.Kind.TheVariants.{Codes};
-ghost use Rattle.script.specs.declared.outcome.Outcome.TheVariants.{Done, Unfit};
+ghost use Rattle.script.specs.declared.outcome.Refusal.TheVariants.{Unfit};
 ghost use Rattle.script.specs.Unsaid.{unsaid_line};
 
 use super::entry::{Entry, Kind, Make, Plan, Term, read_entry};
-use super::outcome::{Outcome, answer};
+use super::outcome::{Refusal, answer};
 use std::io;
 
 // A line of which nothing is said.
@@ -24,14 +24,14 @@ pub struct Opening {
 }
 
 // Notes what is said, unless it was said before.
-fn note<T: Copy>(said: &mut Option<T>, value: T) -> Outcome
-    ensures { MatchOption said.old ((result ≡ Done) × (said.new ≡ Some value)) (λ _. (result ≡ Unfit) × (said.new ≡ said.old)) }
+fn note<T: Copy>(said: &mut Option<T>, value: T) -> Result<(), Refusal>
+    ensures { MatchOption said.old ((result ≡ Ok tt) × (said.new ≡ Some value)) (λ _. (result ≡ Err Unfit) × (said.new ≡ said.old)) }
 {
     if said.is_some() {
-        return Outcome::Unfit;
+        return Err(Refusal::Unfit);
     }
     *said = Some(value);
-    Outcome::Done
+    Ok(())
 }
 
 impl Opening {
@@ -47,7 +47,7 @@ impl Opening {
     }
 
     // Notes what an opening line says.
-    fn take(&mut self, term: Term) -> Outcome {
+    fn take(&mut self, term: Term) -> Result<(), Refusal> {
         match term {
             Term::Keys(kind) => note(&mut self.keys, kind),
             Term::House(plan) => note(&mut self.house, plan),

@@ -1,16 +1,15 @@
 // What becomes of a line of the script.
-ghost use Rattle.std.specs.Prelude.{◌≡◌, ◌++◌, IfOk, Some, string_bytes, MatchResult};
-ghost use Rattle.script.specs.declared.outcome.Outcome.TheVariants.{Done, Denied};
-ghost use Rattle.script.specs.Shown.{outcome_text};
+ghost use Rattle.std.specs.Prelude.{◌≡◌, ◌++◌, IfOk, Some, string_bytes};
+ghost use Rattle.script.specs.declared.outcome.Refusal.TheVariants.{Denied};
+ghost use Rattle.script.specs.Shown.{refusal_text, outcome_text};
 
 use keys::Denial;
 use std::alloc::{AllocError, Global};
 use std::fmt;
 
+// Why a line of the script had no effect.
 #[derive(Clone, Copy)]
-pub enum Outcome {
-    // The call was made, or the opening line noted.
-    Done,
+pub enum Refusal {
     // The bench denied the call.
     Denied(Denial),
     // The line says nothing.
@@ -19,37 +18,32 @@ pub enum Outcome {
     Unfit,
 }
 
-impl Outcome {
-    // The outcome of a call, by the bench's answer.
-    pub fn of(answer: Result<(), Denial>) -> Outcome
-        ensures { MatchResult answer (λ _. result ≡ Done) (λ denial. result ≡ Denied denial) }
-    {
-        match answer {
-            Ok(()) => Outcome::Done,
-            Err(denial) => Outcome::Denied(denial),
-        }
+impl From<Denial> for Refusal {
+    ghost from_gives = { λ denial r. r ≡ Denied denial };
+
+    fn from(denial: Denial) -> Refusal {
+        Refusal::Denied(denial)
     }
 }
 
-impl fmt::Display for Outcome {
-    ghost output = { λ o. Some (outcome_text o) };
+impl fmt::Display for Refusal {
+    ghost output = { λ r. Some (refusal_text r) };
 
     fn fmt<W: fmt::Write>(&self, f: &mut fmt::Formatter<W>) -> fmt::Result {
         match self {
-            Outcome::Done => write!(f, " ok"),
-            Outcome::Denied(denial) => {
-                let number = denial.number();
-                write!(f, " denied {number}")
-            }
-            Outcome::NoCall => write!(f, ": not a call"),
-            Outcome::Unfit => write!(f, ": does not fit the standing"),
+            Refusal::Denied(denial) => write!(f, " denied {}", denial.number()),
+            Refusal::NoCall => write!(f, ": not a call"),
+            Refusal::Unfit => write!(f, ": does not fit the standing"),
         }
     }
 }
 
 // A line of the script with its outcome behind it.
-pub fn answer(heap: Global, line: &str, outcome: Outcome) -> Result<String, AllocError>
+pub fn answer(heap: Global, line: &str, outcome: Result<(), Refusal>) -> Result<String, AllocError>
     ensures { IfOk result (λ s. string_bytes s ≡ line.now ++ outcome_text outcome) }
 {
-    format!(in heap; "{line}{outcome}")
+    match outcome {
+        Ok(()) => format!(in heap; "{line} ok"),
+        Err(refusal) => format!(in heap; "{line}{refusal}"),
+    }
 }

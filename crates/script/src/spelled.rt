@@ -5,16 +5,15 @@ use keys::Key;
 use lines::Orderly;
 use std::alloc::{AllocError, Global};
 use std::fmt;
+use std::fmt::Write;
 
 // The keys of a line, in order.
 pub fn keys_of<K: Key, L: Orderly<K>>(heap: Global, line: &L) -> Result<Vec<K>, AllocError>
-    requires { L.Line.sound line.now }
     ensures { IfOk result (λ v. v.items ≡ L.Line.keys line.now) }
 {
     let mut keys = Vec::new(heap);
-    let count = line.count();
-    for place in 0..count {
-        keys.push(line.key_at(place + 1).unwrap())?;
+    for place in 1..=line.count() {
+        keys.push(line.key_at(place).unwrap())?;
     }
     Ok(keys)
 }
@@ -44,14 +43,11 @@ impl fmt::Display for Hex<'_> {
 
 // The keys of a line in order, each as its spelling in small hex behind a space.
 pub fn order_text<K: Key, L: Orderly<K>>(heap: Global, line: &L) -> Result<String, AllocError>
-    requires { L.Line.sound line.now }
 {
     let mut text = String::new(heap);
     for key in keys_of(heap, line)? {
         let spelling = spell(heap, &key)?;
-        let hex = Hex(&spelling);
-        let part = format!(in heap; " {hex}")?;
-        text.push_str(&part)?;
+        write!(text, " {}", Hex(&spelling))?;
     }
     Ok(text)
 }

@@ -1,5 +1,5 @@
 // Words of the script: spellings in hex, and decimal numbers.
-ghost use Rattle.std.specs.Prelude.{◌≡◌, ◌-◌, ◌^◌, min, vec_items};
+ghost use Rattle.std.specs.Prelude.{◌≡◌, ◌-◌, ◌^◌, min, vec_items, Decides};
 ghost use Rattle.std.specs.Option.{SomeIff};
 ghost use Rattle.std.specs.Str.Parse.{IsNumeral, digits_value};
 ghost use Rattle.script.specs.declared.words.Fault.TheVariants.{Memory};
@@ -34,12 +34,8 @@ impl<T: Drop> From<AllocFailed<T>> for Fault {
 fn hex_digit(digit: u8) -> Option<u8>
     ensures { result ≡ hex_digit digit }
 {
-    match digit {
-        b'0'..=b'9' => Some(digit - b'0'),
-        b'a'..=b'f' => Some(digit - b'a' + 10),
-        b'A'..=b'F' => Some(digit - b'A' + 10),
-        _ => None,
-    }
+    let value = char::from(digit).to_digit(16)?;
+    Some(value as u8)
 }
 
 // The byte that two hex digits spell.
@@ -55,14 +51,13 @@ fn hex_byte(high: u8, low: u8) -> Option<u8>
 pub fn read_hex(heap: Global, word: &str) -> Result<Vec<u8>, Fault>
     ensures { ReadAs vec_items (spelling_read word.now) result }
 {
+    let (pairs, rest) = word.as_bytes().as_chunks::<2>();
     let mut spelling = Vec::new(heap);
-    let mut rest = word.as_bytes();
-    while let [high, low, more @ ..] = rest {
+    for [high, low] in pairs {
         let Some(byte) = hex_byte(*high, *low) else {
             return Err(Fault::NoCall);
         };
         spelling.push(byte)?;
-        rest = more;
     }
     if !rest.is_empty() || word.is_empty() {
         return Err(Fault::NoCall);
@@ -70,21 +65,19 @@ pub fn read_hex(heap: Global, word: &str) -> Result<Vec<u8>, Fault>
     Ok(spelling)
 }
 
+// Whether a word is a decimal digit or more.
+fn is_numeral(word: &str) -> bool
+    ensures { Decides result (IsNumeral 10 word.now) }
+{
+    !word.is_empty() && word.as_bytes().iter().all(|byte| byte.is_ascii_digit())
+}
+
 // The number that a word of decimal digits means, or the largest `usize` where that is less.
 pub fn read_number(word: &str) -> Option<usize>
     ensures { SomeIff result (IsNumeral 10 word.now) (min (digits_value 10 word.now) (2 ^ 64 - 1)) }
 {
-    if word.is_empty() {
+    if !is_numeral(word) {
         return None;
     }
-    let mut number: usize = 0;
-    let digits = word.as_bytes();
-    for b in digits {
-        if !b.is_ascii_digit() {
-            return None;
-        }
-        let digit = (*b - b'0') as usize;
-        number = number.saturating_mul(10).saturating_add(digit);
-    }
-    Some(number)
+    Some(word.parse().unwrap_or(usize::MAX))
 }
