@@ -7,6 +7,6 @@ pub item-behind : (text word value : List ℕ) (last : ℕ) → text ++ word ++ 
 unfolding item
 item-behind text word value last = simp append_assoc
 
-pub length-item : (word value : List ℕ) (last : ℕ) → length (item word value last) ≡ length word + length value + 2
+pub length_item : (word value : List ℕ) (last : ℕ) → length (item word value last) ≡ length word + length value + 2
 unfolding item
-length-item word value last = simp length-append (omega arith)
+length_item word value last = simp length-append (omega arith)

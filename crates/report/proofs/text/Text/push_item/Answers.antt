@@ -1,10 +1,7 @@
-use Rattle.std.proofs.Common.{arith}
-use Rattle.report.proofs.Items.{item-behind, length-item}
-use Rattle.report.specs.Texts.{text_of}
+use Rattle.report.proofs.Appends.{appended_both}
 use Rattle.report.proofs.text.Text.push_item.Goals as goal
+use Rattle.report.specs.Lines.{item}
 
 pub returns : goal.returns
-returns c =
-    let whole = item-behind (text_of c.args.self.now) c.args.word.now c.args.value.now c.args.last in
-    let long = length-item c.args.word.now c.args.value.now c.args.last in
-    record { text = record { text = cc; len = omega arith }; short = omega arith }
+unfolding item
+returns c = appended_both (appended_both (appended_both c.push.ensures c.push-2.ensures) c.push_decimal.ensures) c.push-3.ensures
