@@ -1,8 +1,8 @@
 // The fault line.
-ghost use Rattle.std.specs.Prelude.{◌≡◌, length};
+ghost use Rattle.std.specs.Prelude.{◌≡◌, ◌+◌, ◌++◌, length};
 ghost use Rattle.report.specs.Faults.{word_of, fault_text};
 ghost use Rattle.report.specs.Printing.{printed, Short};
-ghost use Rattle.report.specs.Texts.{Appended, Fits};
+ghost use Rattle.report.specs.Texts.{text_of, Fits, Kept};
 
 use super::text::{Text, check_room};
 use keys::Denial;
@@ -22,7 +22,9 @@ impl Text<'_> {
     // Puts the fault line behind the text.
     fn push_fault(&mut self, fault: Fault)
         requires { Fits self.old (fault_text fault) }
-        ensures { Appended self.old (fault_text fault) self.new }
+        ensures text { text_of self.new ≡ text_of self.old ++ (fault_text fault) }
+        ensures len { self.new.len ≡ self.old.len + length (fault_text fault) }
+        ensures kept { Kept self.old self.new }
     {
         self.push_item(b"fault", u64::from(fault.denial.number()), b' ');
         self.push_item(word_of(fault.log), fault.at as u64, b'\n');

@@ -1,11 +1,11 @@
 // The report of a ledger.
-ghost use Rattle.std.specs.Prelude.{◌≡◌, length, codes, decimal};
+ghost use Rattle.std.specs.Prelude.{◌≡◌, ◌+◌, ◌++◌, length, codes, decimal};
 ghost use Rattle.reckoning.specs.Floor.{floor_of};
 ghost use Rattle.bench.specs.Benches.{sums_of};
 ghost use Rattle.report.specs.Lines.{line};
 ghost use Rattle.report.specs.Printing.{printed, Short};
 ghost use Rattle.report.specs.Reports.{twice_of, best_of, report_text};
-ghost use Rattle.report.specs.Texts.{Appended, Fits};
+ghost use Rattle.report.specs.Texts.{text_of, Fits, Kept};
 
 use super::text::{Text, check_room};
 use bench::Ledger;
@@ -29,7 +29,9 @@ impl Text<'_> {
     // Puts a line of a word and a number behind the text.
     fn push_line(&mut self, word: &[u8], number: u32)
         requires { Fits self.old (line word.now (decimal number)) }
-        ensures { Appended self.old (line word.now (decimal number)) self.new }
+        ensures text { text_of self.new ≡ text_of self.old ++ (line word.now (decimal number)) }
+        ensures len { self.new.len ≡ self.old.len + length (line word.now (decimal number)) }
+        ensures kept { Kept self.old self.new }
     {
         self.push_item(word, u64::from(number), b'\n');
     }
@@ -38,7 +40,9 @@ impl Text<'_> {
     #[tactic(auto, unfolding(crate::specs::Lines::item))]
     fn push_best(&mut self, best: Option<u32>)
         requires { Fits self.old (line (codes "best") (best_of best)) }
-        ensures { Appended self.old (line (codes "best") (best_of best)) self.new }
+        ensures text { text_of self.new ≡ text_of self.old ++ (line (codes "best") (best_of best)) }
+        ensures len { self.new.len ≡ self.old.len + length (line (codes "best") (best_of best)) }
+        ensures kept { Kept self.old self.new }
     {
         match best {
             Some(cost) => self.push_line(b"best", cost),
@@ -47,9 +51,12 @@ impl Text<'_> {
     }
 
     // Puts the report behind the text.
+    #[tactic(auto, using(crate::proofs::Items::behind))]
     fn push_report(&mut self, ledger: &Ledger, best: Option<u32>)
         requires { Fits self.old (report_text (sums_of ledger.now) best) }
-        ensures { Appended self.old (report_text (sums_of ledger.now) best) self.new }
+        ensures text { text_of self.new ≡ text_of self.old ++ (report_text (sums_of ledger.now) best) }
+        ensures len { self.new.len ≡ self.old.len + length (report_text (sums_of ledger.now) best) }
+        ensures kept { Kept self.old self.new }
     {
         self.push_line(b"requests", ledger.requests);
         self.push_line(b"house", ledger.house);

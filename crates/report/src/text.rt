@@ -1,9 +1,9 @@
 // Texts written to the front of a lent buffer.
-ghost use Rattle.std.specs.Prelude.{◌≡◌, ◌+◌, ◌≤◌, [], ◌∷◌, length, cond, decimal, Ok, Err, nat_lt};
+ghost use Rattle.std.specs.Prelude.{◌≡◌, ◌+◌, ◌%◌, ◌<◌, ◌≤◌, [], ◌∷◌, ◌++◌, length, cond, decimal, Ok, Err, nat_lt};
 ghost use Rattle.keys.specs.declared.denial.Denial.TheVariants.{NoRoom};
 ghost use Rattle.report.specs.Lines.{item};
 ghost use Rattle.report.specs.Printing.{room};
-ghost use Rattle.report.specs.Texts.{Appended, Fits};
+ghost use Rattle.report.specs.Texts.{text_of, Fits, Kept};
 
 use keys::Denial;
 
@@ -47,29 +47,47 @@ impl<'a> Text<'a> {
     // Puts bytes behind the text.
     pub(crate) fn push(&mut self, more: &[u8])
         requires { Fits self.old more.now }
-        ensures { Appended self.old more.now self.new }
+        ensures text { text_of self.new ≡ text_of self.old ++ more.now }
+        ensures len { self.new.len ≡ self.old.len + length more.now }
+        ensures kept { Kept self.old self.new }
     {
         let end = self.len + more.len();
         self.buffer[self.len..end].copy_from_slice(more);
         self.len = end;
     }
 
-    // Puts a number's decimal behind the text.
-    fn push_decimal(&mut self, number: u64)
-        requires { Fits self.old (decimal number) }
-        ensures { Appended self.old (decimal number) self.new }
+    // Puts the last digit of a number behind the text.
+    fn push_digit(&mut self, number: u64)
+        requires { self.old.len < length self.old.buffer.now }
+        ensures text { text_of self.new ≡ text_of self.old ++ ((48 + number % 10) ∷ []) }
+        ensures len { self.new.len ≡ self.old.len + 1 }
+        ensures kept { Kept self.old self.new }
     {
-        if number >= 10 {
-            self.push_decimal(number / 10);
-        }
         self.push(&[b'0' + (number % 10) as u8]);
     }
 
+    // Puts a number's decimal behind the text.
+    #[tactic(auto, using(crate::proofs::Digits::digits))]
+    fn push_decimal(&mut self, number: u64)
+        requires { Fits self.old (decimal number) }
+        ensures text { text_of self.new ≡ text_of self.old ++ (decimal number) }
+        ensures len { self.new.len ≡ self.old.len + length (decimal number) }
+        ensures kept { Kept self.old self.new }
+    {
+        if number < 10 {
+            return self.push_digit(number);
+        }
+        self.push_decimal(number / 10);
+        self.push_digit(number);
+    }
+
     // Puts a word, a space, a number's decimal and a last byte behind the text.
-    #[tactic(auto, using(crate::proofs::Items::length_item, crate::proofs::Digits::length_step))]
+    #[tactic(auto, using(crate::proofs::Items::length_item), unfolding(crate::specs::Lines::item))]
     pub(crate) fn push_item(&mut self, word: &[u8], number: u64, last: u8)
         requires { Fits self.old (item word.now (decimal number) last) }
-        ensures { Appended self.old (item word.now (decimal number) last) self.new }
+        ensures text { text_of self.new ≡ text_of self.old ++ (item word.now (decimal number) last) }
+        ensures len { self.new.len ≡ self.old.len + length (item word.now (decimal number) last) }
+        ensures kept { Kept self.old self.new }
     {
         self.push(word);
         self.push(b" ");

@@ -5,7 +5,7 @@ use Rattle.report.proofs.fault.write_fault.Goals as goal
 pub push_fault-requires : goal.push_fault-requires
 push_fault-requires c =
     let fits = fault-fits c.args.fault (search rules) in
-    record { room = search rules }
+    search rules
 
 pub returns-clause-short : goal.returns-clause-short
 returns-clause-short c =

@@ -6,7 +6,7 @@ pub push_report-requires : goal.push_report-requires
 push_report-requires c =
     let cost : IfSome c.args.best (λ cost. cost < 2 ^ 32) = search rules in
     let fits = report-fits c.args.ledger c.args.best cost in
-    record { room = search rules }
+    search rules
 
 pub returns-clause-short : goal.returns-clause-short
 returns-clause-short c =

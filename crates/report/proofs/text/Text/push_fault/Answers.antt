@@ -1,6 +1,5 @@
-use Rattle.std.proofs.Common.{rules}
-use Rattle.report.proofs.Appends.{appended_as, appended_both}
+use Rattle.report.proofs.Appends.{kept_both}
 use Rattle.report.proofs.text.Text.push_fault.Goals as goal
 
-pub returns : goal.returns
-returns c = appended_as (search rules) (appended_both c.push_item.ensures c.push_item-2.ensures)
+pub returns-clause-kept : goal.returns-clause-kept
+returns-clause-kept c = kept_both c.push_item.ensures.kept c.push_item-2.ensures.kept
