@@ -1,5 +1,5 @@
 // Two logs, judged on two rows of 256 cells.
-ghost use Rattle.std.specs.Prelude.{◌≡◌, cond, Ok, Err};
+ghost use Rattle.std.specs.Prelude.{◌≡◌, length, cond, Ok, Err};
 ghost use Rattle.keys.specs.declared.denial.Denial.TheVariants.{TooLong};
 ghost use Rattle.acceptance.specs.Scripts.{fault_on};
 ghost use Rattle.judge.specs.Verdicts.{numbers_of};
@@ -14,14 +14,18 @@ use row::Row;
 // The most bytes that a log may have.
 const MOST_BYTES: usize = 8192;
 
-// Judges two logs on two rows, whose cells all hold this key at first. What it is does not matter.
-fn judge_on_rows<K: Key>(filler: K, page: &[u8], plan: &[u8]) -> Result<Ledger, Fault>
+// Judges two logs on two rows over these cells, whatever they hold.
+fn judge_on_rows<K: Key>(
+    house_cells: &mut [K],
+    rival_cells: &mut [K],
+    page: &[u8],
+    plan: &[u8],
+) -> Result<Ledger, Fault>
+    requires { (length house_cells.old ≡ 256) × (length rival_cells.old ≡ 256) }
     ensures { numbers_of result ≡ answer_for K.Key.equal K.Key.reading K.Key.letter page.now plan.now }
 {
-    let mut house_cells = [filler; 256];
-    let mut rival_cells = [filler; 256];
-    let mut house = Row::new(&mut house_cells);
-    let mut rival = Row::new(&mut rival_cells);
+    let mut house = Row::new(house_cells);
+    let mut rival = Row::new(rival_cells);
     judge(&mut house, &mut rival, page, plan)
 }
 
@@ -41,9 +45,10 @@ fn judge_by_kind(page: &[u8], plan: &[u8]) -> Result<Ledger, Fault>
             bytes: [b'-'; 16],
             len: 1,
         };
-        return judge_on_rows(filler, page, plan);
+        return judge_on_rows(&mut [filler; 256], &mut [filler; 256], page, plan);
     }
-    judge_on_rows(Code { number: 0 }, page, plan)
+    let filler = Code { number: 0 };
+    judge_on_rows(&mut [filler; 256], &mut [filler; 256], page, plan)
 }
 
 // Denies a log that has more bytes than it may.
