@@ -1,8 +1,7 @@
 // Two logs, judged on two rows of 256 cells.
-ghost use Rattle.std.specs.Prelude.{◌≡◌, length, nat_eq};
-ghost use Rattle.std.specs.Str.{bytes_eq};
-ghost use Rattle.keys.specs.Codes.{code_read};
-ghost use Rattle.keys.specs.Names.{name_read};
+ghost use Rattle.std.specs.Prelude.{◌≡◌, length, cond, Ok, Err};
+ghost use Rattle.keys.specs.declared.denial.Denial.TheVariants.{TooLong};
+ghost use Rattle.acceptance.specs.Scripts.{fault_on};
 ghost use Rattle.judge.specs.Verdicts.{numbers_of};
 ghost use Rattle.output.specs.Outputs.{answer_for, of_names, answer, too_long, sized_answer};
 
@@ -30,30 +29,11 @@ fn judge_on_rows<K: Key>(
     judge(&mut house, &mut rival, page, plan)
 }
 
-// Judges two logs of names.
-fn judge_names(page: &[u8], plan: &[u8]) -> Result<Ledger, Fault>
-    ensures { numbers_of result ≡ answer_for bytes_eq name_read 78 page.now plan.now }
-{
-    let filler = Name {
-        bytes: [b'-'; 16],
-        len: 1,
-    };
-    judge_on_rows(&mut [filler; 256], &mut [filler; 256], page, plan)
-}
-
-// Judges two logs of codes.
-fn judge_codes(page: &[u8], plan: &[u8]) -> Result<Ledger, Fault>
-    ensures { numbers_of result ≡ answer_for nat_eq code_read 67 page.now plan.now }
-{
-    let filler = Code { number: 0 };
-    judge_on_rows(&mut [filler; 256], &mut [filler; 256], page, plan)
-}
-
 // Whether byte 1 of a page names the kind of names.
 fn is_of_names(page: &[u8]) -> bool
     ensures { result ≡ of_names page.now }
 {
-    page.len() > 1 && page[1] == b'N'
+    matches!(page, [_, b'N', ..])
 }
 
 // Judges two logs for the kind of key that the page names, codes where it names none.
@@ -61,36 +41,35 @@ fn judge_by_kind(page: &[u8], plan: &[u8]) -> Result<Ledger, Fault>
     ensures { numbers_of result ≡ answer page.now plan.now }
 {
     if is_of_names(page) {
-        return judge_names(page, plan);
+        let filler = Name {
+            bytes: [b'-'; 16],
+            len: 1,
+        };
+        return judge_on_rows(&mut [filler; 256], &mut [filler; 256], page, plan);
     }
-    judge_codes(page, plan)
+    let filler = Code { number: 0 };
+    judge_on_rows(&mut [filler; 256], &mut [filler; 256], page, plan)
 }
 
-// Whether a log has more bytes than it may.
-fn is_too_long(log: &[u8]) -> bool
-    ensures { result ≡ too_long log.now }
+// Denies a log that has more bytes than it may.
+fn check_size(bytes: &[u8], log: Log) -> Result<(), Fault>
+    ensures { result ≡ cond (too_long bytes.now) (Err (fault_on log 0 TooLong)) (Ok tt) }
 {
-    log.len() > MOST_BYTES
+    if bytes.len() > MOST_BYTES {
+        return Err(Fault {
+            denial: Denial::TooLong,
+            log,
+            at: 0,
+        });
+    }
+    Ok(())
 }
 
 // Judges two logs that are not too long.
 pub(crate) fn judge_sized(page: &[u8], plan: &[u8]) -> Result<Ledger, Fault>
     ensures { numbers_of result ≡ sized_answer page.now plan.now }
 {
-    let denial = Denial::TooLong;
-    if is_too_long(page) {
-        return Err(Fault {
-            denial,
-            log: Log::Page,
-            at: 0,
-        });
-    }
-    if is_too_long(plan) {
-        return Err(Fault {
-            denial,
-            log: Log::Plan,
-            at: 0,
-        });
-    }
+    check_size(page, Log::Page)?;
+    check_size(plan, Log::Plan)?;
     judge_by_kind(page, plan)
 }

@@ -16,11 +16,8 @@ fn read_log(rt: &HostRuntime, path: &str) -> io::Result<Vec<u8>> {
         Ok(file) => {
             file.take(ENOUGH).read_to_end(&mut log)?;
         }
-        Err(e) => {
-            if e.kind() != ErrorKind::NotFound {
-                return Err(e);
-            }
-        }
+        Err(e) if e.kind() == ErrorKind::NotFound => {}
+        Err(e) => return Err(e),
     }
     Ok(log)
 }
@@ -31,5 +28,5 @@ fn main(rt: HostRuntime) -> io::Result<()> {
     let mut text = [0; 128];
     // The cheapest plan is not searched for yet, so no best cost is handed in. Any text fits 128 bytes.
     let len = write_output(&page, &plan, None, &mut text).unwrap();
-    rt.stdout().write_all(&text[0..len])
+    rt.stdout().write_all(&text[..len])
 }

@@ -1,3 +1,4 @@
+mod Appends
 mod Digits
 mod Items
 mod Fits

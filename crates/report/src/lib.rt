@@ -1,10 +1,7 @@
 // Reports of ledgers and fault lines, as text in a caller's buffer.
 #![tactic(auto)]
 
-mod compose;
-mod decimal;
 pub mod fault;
-mod print;
 pub mod report;
 mod text;
 

@@ -1,13 +1,13 @@
 // The report of a ledger.
-ghost use Rattle.std.specs.Prelude.{◌≡◌, length};
+ghost use Rattle.std.specs.Prelude.{◌≡◌, ◌+◌, ◌++◌, length, codes, decimal};
 ghost use Rattle.reckoning.specs.Floor.{floor_of};
 ghost use Rattle.bench.specs.Benches.{sums_of};
+ghost use Rattle.report.specs.Lines.{line};
 ghost use Rattle.report.specs.Printing.{printed, Short};
-ghost use Rattle.report.specs.Reports.{twice_of, report_text};
-ghost use Rattle.report.specs.Texts.{text_of};
+ghost use Rattle.report.specs.Reports.{twice_of, best_of, report_text};
+ghost use Rattle.report.specs.Texts.{text_of, Fits, Kept};
 
-use super::print::print;
-use super::text::Text;
+use super::text::{Text, check_room};
 use bench::Ledger;
 use keys::Denial;
 
@@ -22,26 +22,51 @@ fn twice_of(ledger: &Ledger) -> u32
 fn floor_of(ledger: &Ledger) -> u32
     ensures { result ≡ floor_of (sums_of ledger.now) }
 {
-    (ledger.house + ledger.requests + 1) / 2
+    (ledger.house + ledger.requests).div_ceil(2)
 }
 
-// The report as a text.
-fn report_of(ledger: &Ledger, best: Option<u32>) -> Text
-    ensures { text_of result ≡ report_text (sums_of ledger.now) best }
-{
-    let mut text = Text::new();
-    text.push_number(b"requests", ledger.requests as u64, b'\n');
-    text.push_number(b"house", ledger.house as u64, b'\n');
-    text.push_number(b"rival", ledger.rival as u64, b'\n');
-    text.push_number(b"paid", ledger.paid as u64, b'\n');
-    text.push_number(b"free", ledger.free as u64, b'\n');
-    text.push_number(b"twice", twice_of(ledger) as u64, b'\n');
-    text.push_number(b"floor", floor_of(ledger) as u64, b'\n');
-    match best {
-        Some(cost) => text.push_number(b"best", cost as u64, b'\n'),
-        None => text.push_item(b"best", b"none", b'\n'),
+impl Text<'_> {
+    // Puts a line of a word and a number behind the text.
+    fn push_line(&mut self, word: &[u8], number: u32)
+        requires { Fits self.old (line word.now (decimal number)) }
+        ensures text { text_of self.new ≡ text_of self.old ++ (line word.now (decimal number)) }
+        ensures len { self.new.len ≡ self.old.len + length (line word.now (decimal number)) }
+        ensures kept { Kept self.old self.new }
+    {
+        self.push_item(word, u64::from(number), b'\n');
     }
-    text
+
+    // Puts the line of the best cost, if there is one, behind the text.
+    #[tactic(auto, unfolding(crate::specs::Lines::item))]
+    fn push_best(&mut self, best: Option<u32>)
+        requires { Fits self.old (line (codes "best") (best_of best)) }
+        ensures text { text_of self.new ≡ text_of self.old ++ (line (codes "best") (best_of best)) }
+        ensures len { self.new.len ≡ self.old.len + length (line (codes "best") (best_of best)) }
+        ensures kept { Kept self.old self.new }
+    {
+        match best {
+            Some(cost) => self.push_line(b"best", cost),
+            None => self.push(b"best none\n"),
+        }
+    }
+
+    // Puts the report behind the text.
+    #[tactic(auto, using(crate::proofs::Items::behind))]
+    fn push_report(&mut self, ledger: &Ledger, best: Option<u32>)
+        requires { Fits self.old (report_text (sums_of ledger.now) best) }
+        ensures text { text_of self.new ≡ text_of self.old ++ (report_text (sums_of ledger.now) best) }
+        ensures len { self.new.len ≡ self.old.len + length (report_text (sums_of ledger.now) best) }
+        ensures kept { Kept self.old self.new }
+    {
+        self.push_line(b"requests", ledger.requests);
+        self.push_line(b"house", ledger.house);
+        self.push_line(b"rival", ledger.rival);
+        self.push_line(b"paid", ledger.paid);
+        self.push_line(b"free", ledger.free);
+        self.push_line(b"twice", twice_of(ledger));
+        self.push_line(b"floor", floor_of(ledger));
+        self.push_best(best);
+    }
 }
 
 // Writes the report of a ledger and a best cost, if there is one, to the buffer's front, and gives its length.
@@ -49,6 +74,8 @@ pub fn write_report(ledger: Ledger, best: Option<u32>, buffer: &mut [u8]) -> Res
     ensures text { printed (report_text (sums_of ledger) best) buffer.old ≡ (result, buffer.new) }
     ensures short { Short (length buffer.old) result }
 {
-    let text = report_of(&ledger, best);
-    print(&text, buffer)
+    check_room(buffer)?;
+    let mut text = Text::new(buffer);
+    text.push_report(&ledger, best);
+    Ok(text.len())
 }
