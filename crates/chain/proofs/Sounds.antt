@@ -24,7 +24,7 @@ pub record Sound {K V : Type 0} (equal : V → V → Bool) (value : K → V) (ce
   pub differ : Different equal (map value (chained cells head count))
 
 -- as of each chain
-pub sound-chain : {K : Type 0} {kind : _} (chain : Chain K kind) → Sound kind.equal kind.value chain.cells.now chain.head chain.count
+pub sound-chain : {K : Type 0} {kind : _} {same : _} (chain : Chain K kind same) → Sound kind.equal kind.value chain.cells.now chain.head chain.count
 sound-chain chain = record { whole = record { runs = chain.runs; apart = chain.apart }; within = chain.within; counted = chain.counted; differ = chain.differ }
 
 -- a way over the same cells in another order

@@ -6,7 +6,7 @@ use Rattle.chain.specs.declared.Chain.{Chain}
 use Rattle.chain.specs.Chains.{room, chained}
 
 -- the keys are no more than the limit
-pub keys-within : {K : Type 0} {kind : _} (chain : Chain K kind) → length (chained chain.cells.now chain.head chain.count) ≤ room chain.cells.now
+pub keys-within : {K : Type 0} {kind : _} {same : _} (chain : Chain K kind same) → length (chained chain.cells.now chain.head chain.count) ≤ room chain.cells.now
 keys-within chain = let n = chain.counted in let l = chain.within in omega arith
 
 -- and the limit is no more than 256

@@ -71,7 +71,7 @@ module _ {K V : Type 0} (equal : V → V → Bool) (value : K → V) (v : V) whe
       ap (option_map (λ at. at + 1)) (sym e) ∙ rw none at (counted-from 0 ks)
 
 -- the calls on a row
-module _ {K : Type 0} {kind : _} (row : Row K kind) where
+module _ {K : Type 0} {kind : _} {same : _} (row : Row K kind same) where
   pub length-keys : length (row_keys row) ≡ row.count
   length-keys = let h = row.within in length-take-le row.count row.cells.now (omega arith)
 

@@ -6,9 +6,9 @@ use Rattle.row.specs.declared.Row.{Row}
 use Rattle.row.specs.Rows.{row_keys, row_limit}
 
 -- the keys are no more than the limit
-pub keys-within : {K : Type 0} {kind : _} (row : Row K kind) → length (row_keys row) ≤ row_limit row
+pub keys-within : {K : Type 0} {kind : _} {same : _} (row : Row K kind same) → length (row_keys row) ≤ row_limit row
 keys-within row = let h = row.within in omega (arith, length-take-le row.count row.cells.now (omega arith))
 
 -- and the limit is no more than 256
-pub limit-bounded : {K : Type 0} {kind : _} (row : Row K kind) → row_limit row ≤ 256
+pub limit-bounded : {K : Type 0} {kind : _} {same : _} (row : Row K kind same) → row_limit row ≤ 256
 limit-bounded row = omega arith

@@ -6,8 +6,8 @@ use Rattle.chain.proofs.Orders.{moved_back-one}
 use Rattle.chain.proofs.Sounds.{sound-chain, chained-moved, sound-moved}
 use Rattle.chain.proofs.ChainLine.exchange.Goals as goal
 
-pub returns-then-not-has_next-clause-keys : goal.returns-then-not-has_next-clause-keys
-returns-then-not-has_next-clause-keys g c =
+pub returns-then-not-may_exchange-clause-keys : goal.returns-then-not-may_exchange-clause-keys
+returns-then-not-may_exchange-clause-keys g c =
     let chain = c.args.self.now in
     let n = chain.counted in
     sym (exchanged-outside c.args.place (chained chain.cells.now chain.head chain.count) (λ a b. grind (arith, nat_tests)))

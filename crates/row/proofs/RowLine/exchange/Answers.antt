@@ -6,8 +6,8 @@ use Rattle.row.specs.Rows.{row_keys}
 use Rattle.row.proofs.Cells.{length-keys, keys-swapped}
 use Rattle.row.proofs.RowLine.exchange.Goals as goal
 
-pub returns-then-not-has_next-clause-keys : goal.returns-then-not-has_next-clause-keys
-returns-then-not-has_next-clause-keys g c =
+pub returns-then-not-may_exchange-clause-keys : goal.returns-then-not-may_exchange-clause-keys
+returns-then-not-may_exchange-clause-keys g c =
     let n = length-keys c.args.self.now in
     sym (exchanged-outside c.args.place (row_keys c.args.self.now) (λ a b. grind (arith, nat_tests)))
 
