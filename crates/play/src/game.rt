@@ -25,7 +25,7 @@ impl<K: Key, H: Orderly<K>, R: Orderly<K>> Model for Game<K, H, R> {
 
     ghost view = { λ game. ledger_of game.standing };
 
-    ghost invariant = { λ game. Playing K.Key.own H.Line R.Line game.house game.rival (ledger_of game.standing) };
+    ghost invariant = { λ game. Playing K.Key H.Line R.Line game.house game.rival (ledger_of game.standing) };
 }
 
 impl<K: Key, H: Orderly<K>, R: Orderly<K>> Game<K, H, R> {
