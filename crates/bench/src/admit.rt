@@ -5,7 +5,7 @@ ghost use Rattle.bench.specs.Admission.{admitted, failed, load_failed, found, pl
 
 use super::ledger::{COUNTER_LIMIT, Ledger};
 use keys::{Denial, Key};
-use lines::{Line, Orderly};
+use lines::{Line, Orderly, is_place};
 
 // Where a key stands, or is put, on the two sides.
 #[derive(Clone, Copy)]
@@ -34,7 +34,7 @@ fn count_of<K: Key, L: Orderly<K>>(line: &L) -> usize
 fn is_outside(goal: usize, place: usize) -> bool
     ensures { result ≡ outside goal place }
 {
-    !(1..=place).contains(&goal)
+    !is_place(goal, place)
 }
 
 impl<'a, H, R> Seen<'a, H, R> {

@@ -1,4 +1,3 @@
 pub mod Forward
 pub mod Kept
 pub mod Reach
-pub mod Found
