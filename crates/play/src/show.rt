@@ -32,8 +32,7 @@ impl Bound {
 }
 
 // The order of a side, as spellings in hex.
-fn print_order<K: Key, L: Orderly<K>>(rt: &HostRuntime, side: &str, line: &L) -> io::Result<()>
-{
+fn print_order<K: Key, L: Orderly<K>>(rt: &HostRuntime, side: &str, line: &L) -> io::Result<()> {
     let order = order_text(rt.alloc(), line)?;
     println!(rt; "{side}-order{order}")
 }

@@ -42,8 +42,7 @@ impl fmt::Display for Hex<'_> {
 }
 
 // The keys of a line in order, each as its spelling in small hex behind a space.
-pub fn order_text<K: Key, L: Orderly<K>>(heap: Global, line: &L) -> Result<String, AllocError>
-{
+pub fn order_text<K: Key, L: Orderly<K>>(heap: Global, line: &L) -> Result<String, AllocError> {
     let mut text = String::new(heap);
     for key in keys_of(heap, line)? {
         let spelling = spell(heap, &key)?;
