@@ -6,14 +6,6 @@ use logs::{Fault, Log};
 use std::process::Abort;
 use std::test::Fail;
 
-// The number of the denial, or 0 where there is none.
-fn denied(answer: Result<usize, Denial>) -> u8 {
-    match answer {
-        Ok(_) => 0,
-        Err(denial) => denial.number(),
-    }
-}
-
 // The report is this text, and a dot is left behind it.
 fn reports(rt: &impl Abort, ledger: Ledger, best: Option<u32>, text: &[u8]) -> Result<(), Fail> {
     let mut buffer = [b'.'; 128];
@@ -86,7 +78,13 @@ fn buffers_below_128_bytes_are_denied(rt: HostRuntime) {
         at: 4,
     };
     let mut buffer = [b'.'; 127];
-    assert_eq!(rt; denied(write_report(small(), None, &mut buffer)), 15);
-    assert_eq!(rt; denied(write_fault(fault, &mut buffer)), 15);
+    assert_eq!(rt;
+        write_report(small(), None, &mut buffer).map_err(Denial::number),
+        Err(15)
+    );
+    assert_eq!(rt;
+        write_fault(fault, &mut buffer).map_err(Denial::number),
+        Err(15)
+    );
     assert_eq!(rt; buffer, [b'.'; 127]);
 }
