@@ -5,7 +5,7 @@ ghost use Rattle.bench.specs.Admission.{admitted, failed, load_failed, found, pl
 
 use super::ledger::{COUNTER_LIMIT, Ledger};
 use keys::{Denial, Key};
-use lines::{Line, Orderly, is_place};
+use lines::{Line, is_place};
 
 // Where a key stands, or is put, on the two sides.
 #[derive(Clone, Copy)]
@@ -23,7 +23,7 @@ pub(crate) struct Seen<'a, H, R> {
 }
 
 // How many keys stand in a line.
-fn count_of<K: Key, L: Orderly<K>>(line: &L) -> usize
+fn count_of<K: Key, L: Line<K>>(line: &L) -> usize
     ensures value { result ≡ length (map K.Key.value (L.Line.keys line.now)) }
     ensures bound { result ≤ 256 }
 {
@@ -41,8 +41,8 @@ impl<'a, H, R> Seen<'a, H, R> {
     // The places of a key that stands on both sides, or none where it stands on neither.
     fn find<K: Key>(&self, key: &K) -> Result<Option<Places>, Denial>
     where
-        H: Orderly<K>,
-        R: Orderly<K>,
+        H: Line<K>,
+        R: Line<K>,
         ensures { result ≡ found K.Key.own H.Line R.Line key.now self.now.house.now self.now.rival.now }
     {
         let house_count = count_of(self.house);
@@ -61,8 +61,8 @@ impl<'a, H, R> Seen<'a, H, R> {
     // The checks of a removal: the counter, then that the key stands on both sides.
     pub(crate) fn admit_remove<K: Key>(&self, key: &K) -> Result<Places, Denial>
     where
-        H: Orderly<K>,
-        R: Orderly<K>,
+        H: Line<K>,
+        R: Line<K>,
         ensures { result ≡ admitted (failed K.Key.own H.Line R.Line (remove (K.Key.value key.now)) self.now.house.now self.now.rival.now self.now.ledger) (places_of K.Key.own H.Line R.Line key.now self.now.house.now self.now.rival.now) }
     {
         if self.ledger.requests == COUNTER_LIMIT {
@@ -74,8 +74,8 @@ impl<'a, H, R> Seen<'a, H, R> {
     // The checks of a lookup: those of a removal, then the goal.
     pub(crate) fn admit_lookup<K: Key>(&self, key: &K, goal: usize) -> Result<Places, Denial>
     where
-        H: Orderly<K>,
-        R: Orderly<K>,
+        H: Line<K>,
+        R: Line<K>,
         ensures { result ≡ admitted (failed K.Key.own H.Line R.Line (lookup (K.Key.value key.now) goal) self.now.house.now self.now.rival.now self.now.ledger) (places_of K.Key.own H.Line R.Line key.now self.now.house.now self.now.rival.now) }
     {
         let places = self.admit_remove(key)?;
@@ -88,8 +88,8 @@ impl<'a, H, R> Seen<'a, H, R> {
     // The checks of a load: that the key stands on neither side, then that neither is full.
     pub(crate) fn admit_load<K: Key>(&self, key: &K) -> Result<Places, Denial>
     where
-        H: Orderly<K>,
-        R: Orderly<K>,
+        H: Line<K>,
+        R: Line<K>,
         ensures { result ≡ admitted (load_failed K.Key.own H.Line R.Line key.now self.now.house.now self.now.rival.now) (next_places K.Key.own H.Line R.Line self.now.house.now self.now.rival.now) }
     {
         if self.find(key)?.is_some() {
@@ -111,8 +111,8 @@ impl<'a, H, R> Seen<'a, H, R> {
     // The checks of an addition: the counter, those of a load, then the goal.
     pub(crate) fn admit_add<K: Key>(&self, key: &K, goal: usize) -> Result<Places, Denial>
     where
-        H: Orderly<K>,
-        R: Orderly<K>,
+        H: Line<K>,
+        R: Line<K>,
         ensures { result ≡ admitted (failed K.Key.own H.Line R.Line (add (K.Key.value key.now) goal) self.now.house.now self.now.rival.now self.now.ledger) (next_places K.Key.own H.Line R.Line self.now.house.now self.now.rival.now) }
     {
         if self.ledger.requests == COUNTER_LIMIT {

@@ -8,10 +8,10 @@ ghost use Rattle.bench.specs.Admission.{load_failed};
 use super::admit::Places;
 use super::ledger::Ledger;
 use keys::{Denial, Key};
-use lines::{Line, Orderly};
+use lines::Line;
 
 // Appends a key on both sides.
-pub(crate) fn append_both<K: Key, H: Orderly<K>, R: Orderly<K>>(
+pub(crate) fn append_both<K: Key, H: Line<K>, R: Line<K>>(
     house: &mut H,
     rival: &mut R,
     key: K,
@@ -27,7 +27,7 @@ pub(crate) fn append_both<K: Key, H: Orderly<K>, R: Orderly<K>>(
 }
 
 // Brings the key at these places to the front of the house and to the goal of the rival.
-pub(crate) fn bring_both<K: Key, H: Orderly<K>, R: Orderly<K>>(
+pub(crate) fn bring_both<K: Key, H: Line<K>, R: Line<K>>(
     house: &mut H,
     rival: &mut R,
     places: Places,
@@ -45,7 +45,7 @@ pub(crate) fn bring_both<K: Key, H: Orderly<K>, R: Orderly<K>>(
 }
 
 // Takes the key at these places out on both sides.
-pub(crate) fn take_both<K: Key, H: Orderly<K>, R: Orderly<K>>(
+pub(crate) fn take_both<K: Key, H: Line<K>, R: Line<K>>(
     house: &mut H,
     rival: &mut R,
     places: Places,
@@ -62,7 +62,7 @@ pub(crate) fn take_both<K: Key, H: Orderly<K>, R: Orderly<K>>(
 }
 
 // The ledger as it is: starting and closing keep it, and the lines.
-pub(crate) fn kept<K: Key, H: Orderly<K>, R: Orderly<K>>(
+pub(crate) fn kept<K: Key, H: Line<K>, R: Line<K>>(
     ledger: Ledger,
     house: &H,
     rival: &R,

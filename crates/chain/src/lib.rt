@@ -8,7 +8,7 @@ ghost use Rattle.chain.specs.Ways.{way, beyond, redirected, moved_back};
 ghost use Rattle.chain.specs.Chains.{keys_in, nexts_in, room, chained, Whole};
 
 use keys::{Denial, Key};
-use lines::{Line, Orderly, is_place, may_exchange};
+use lines::{Line, is_place, may_exchange};
 
 // A cell has a key and the number of the next cell.
 #[derive(Clone, Copy)]
@@ -194,9 +194,17 @@ impl<'a, K: Key> Chain<'a, K> {
 }
 
 impl<'a, K: Key> Line<K> for Chain<'a, K> {
+    ghost use Rattle.chain.specs.Laws.{keys-within, room-bounded};
+
     ghost keys = { λ s. chained s.cells.now s.head s.count };
 
     ghost limit = { λ s. room s.cells.now };
+
+    ghost different = { λ s. s.differ };
+
+    ghost within = { λ s. keys-within s };
+
+    ghost bounded = { λ s. room-bounded s.cells.now };
 
     fn count(&self) -> usize {
         self.count // free cells do not count
@@ -245,15 +253,4 @@ impl<'a, K: Key> Line<K> for Chain<'a, K> {
         self.head = move_back(self.cells, self.head, place, 1);
         Ok(())
     }
-}
-
-// The laws of a line hold of chains.
-impl<'a, K: Key> Orderly<K> for Chain<'a, K> {
-    ghost use Rattle.chain.specs.Laws.{keys-within, room-bounded};
-
-    ghost different = { λ s. s.differ };
-
-    ghost within = { λ s. keys-within s };
-
-    ghost bounded = { λ s. room-bounded s.cells.now };
 }

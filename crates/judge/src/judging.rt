@@ -7,7 +7,7 @@ ghost use Rattle.judge.specs.Verdicts.{Judged};
 use super::pages::{load_all, serve_all};
 use bench::{Ledger, Loading};
 use keys::{Denial, Key};
-use lines::{Line, Orderly};
+use lines::Line;
 use logs::{Fault, Log, PageReader, PlanReader};
 use turns::said_of;
 
@@ -22,7 +22,7 @@ fn check_ended(plan: &PlanReader<'_>) -> Result<(), Fault>
 }
 
 // Plays two logs on a bench: loads, starts, serves and closes.
-fn play_logs<K: Key, H: Orderly<K>, R: Orderly<K>>(
+fn play_logs<K: Key, H: Line<K>, R: Line<K>>(
     mut bench: Loading,
     house: &mut H,
     rival: &mut R,
@@ -42,7 +42,7 @@ fn play_logs<K: Key, H: Orderly<K>, R: Orderly<K>>(
 
 // Judges a plan log on a page log: plays both on a bench of two empty lines, and gives its ledger or the first fault. What was done
 // before a fault remains in the lines.
-pub fn judge<K: Key, H: Orderly<K>, R: Orderly<K>>(
+pub fn judge<K: Key, H: Line<K>, R: Line<K>>(
     house: &mut H,
     rival: &mut R,
     page: &[u8],

@@ -4,7 +4,7 @@ ghost use Rattle.turns.specs.Onward.{EntryTaken, ReadOn, Loads, ServesAll};
 
 use bench::{Loading, Running};
 use keys::{Denial, Key};
-use lines::{Line, Orderly};
+use lines::Line;
 use logs::{Fault, Log, PageReader, PageRecord, PlanReader, Request};
 use turns::{next_entry, said_of, serve};
 
@@ -17,7 +17,7 @@ fn next_record<K: Key>(page: &mut PageReader<'_>) -> Result<Option<PageRecord<K>
 }
 
 // Loads the first keys of a page, and gives its first request, or none where it has none.
-pub(crate) fn load_all<K: Key, H: Orderly<K>, R: Orderly<K>>(
+pub(crate) fn load_all<K: Key, H: Line<K>, R: Line<K>>(
     bench: &mut Loading,
     house: &mut H,
     rival: &mut R,
@@ -51,7 +51,7 @@ fn next_request<K: Key>(page: &mut PageReader<'_>) -> Result<Option<Request<K>>,
 }
 
 // Serves all requests of a page, from the first, which was read, to the page's end.
-pub(crate) fn serve_all<K: Key, H: Orderly<K>, R: Orderly<K>>(
+pub(crate) fn serve_all<K: Key, H: Line<K>, R: Line<K>>(
     bench: &mut Running,
     house: &mut H,
     rival: &mut R,

@@ -66,14 +66,12 @@ pub trait Line<K: Key> {
         }
         Ok(())
     }
-}
 
-// What holds of every line: its keys differ and are no more than its limit, which is at most 256. What a line's own fields need for
-// that is an invariant of its type.
-pub trait Orderly<K: Key>: Line<K> {
-    ghost different: { (s : Self) → Different K.Key.equal (map K.Key.value (Self.Line.keys s)) };
+    // In every line the keys differ and are no more than its limit, which is at most 256. What a line's own fields need for that is an
+    // invariant of its type.
+    ghost different: { (s : Self) → Different K.Key.equal (map K.Key.value (keys s)) };
 
-    ghost within: { (s : Self) → length (Self.Line.keys s) ≤ Self.Line.limit s };
+    ghost within: { (s : Self) → length (keys s) ≤ limit s };
 
-    ghost bounded: { (s : Self) → Self.Line.limit s ≤ 256 };
+    ghost bounded: { (s : Self) → limit s ≤ 256 };
 }

@@ -4,12 +4,12 @@ ghost use Rattle.std.specs.Prelude.{◌≡◌, []};
 use super::standing::Standing;
 use bench::Loading;
 use keys::Key;
-use lines::Orderly;
+use lines::Line;
 use script::{Call, Refusal};
 use std::marker::{Model, PhantomData};
 
 #[derive(Drop)]
-pub struct Game<K: Key, H: Orderly<K>, R: Orderly<K>> {
+pub struct Game<K: Key, H: Line<K>, R: Line<K>> {
     pub(crate) standing: Standing,
     pub(crate) house: H,
     pub(crate) rival: R,
@@ -17,7 +17,7 @@ pub struct Game<K: Key, H: Orderly<K>, R: Orderly<K>> {
 }
 
 // A game is seen as its numbers. The bench is as the calls made so far leave it, and it keeps the twice bound.
-impl<K: Key, H: Orderly<K>, R: Orderly<K>> Model for Game<K, H, R> {
+impl<K: Key, H: Line<K>, R: Line<K>> Model for Game<K, H, R> {
     ghost use Rattle.bench.specs.declared.ledger.Ledger.{Ledger};
     ghost use Rattle.play.specs.Playing.{Playing, ledger_of};
 
@@ -28,7 +28,7 @@ impl<K: Key, H: Orderly<K>, R: Orderly<K>> Model for Game<K, H, R> {
     ghost invariant = { λ game. Playing K.Key H.Line R.Line game.house game.rival (ledger_of game.standing) };
 }
 
-impl<K: Key, H: Orderly<K>, R: Orderly<K>> Game<K, H, R> {
+impl<K: Key, H: Line<K>, R: Line<K>> Game<K, H, R> {
     // Opens a bench on two empty lines.
     pub(crate) fn open(house: H, rival: R) -> Self
         requires { (H.Line.keys house ≡ []) × (R.Line.keys rival ≡ []) }

@@ -3,13 +3,13 @@ ghost use Rattle.std.specs.Prelude.{◌≡◌, []};
 
 use super::game::Game;
 use keys::Key;
-use lines::Orderly;
+use lines::Line;
 use script::{Entry, Refusal, answer, read_entry};
 use std::alloc::{AllocError, Global};
 use std::io;
 
 // Makes the call of a line, where it is one, and gives the game after it.
-fn play_line<K: Key, H: Orderly<K> + Drop, R: Orderly<K> + Drop>(
+fn play_line<K: Key, H: Line<K> + Drop, R: Line<K> + Drop>(
     heap: Global,
     game: Game<K, H, R>,
     line: &str,
@@ -22,7 +22,7 @@ fn play_line<K: Key, H: Orderly<K> + Drop, R: Orderly<K> + Drop>(
 }
 
 // Opens a bench on two empty lines, plays the calls, and reports.
-pub(crate) fn play<K: Key, H: Orderly<K> + Drop, R: Orderly<K> + Drop>(
+pub(crate) fn play<K: Key, H: Line<K> + Drop, R: Line<K> + Drop>(
     rt: &HostRuntime,
     house: H,
     rival: R,

@@ -6,7 +6,7 @@ ghost use Rattle.bench.specs.Benches.{sums_of};
 use super::game::Game;
 use bench::Ledger;
 use keys::Key;
-use lines::Orderly;
+use lines::Line;
 use script::order_text;
 use std::io;
 
@@ -32,12 +32,12 @@ impl Bound {
 }
 
 // The order of a side, as spellings in hex.
-fn print_order<K: Key, L: Orderly<K>>(rt: &HostRuntime, side: &str, line: &L) -> io::Result<()> {
+fn print_order<K: Key, L: Line<K>>(rt: &HostRuntime, side: &str, line: &L) -> io::Result<()> {
     let order = order_text(rt.alloc(), line)?;
     println!(rt; "{side}-order{order}")
 }
 
-impl<K: Key, H: Orderly<K>, R: Orderly<K>> Game<K, H, R> {
+impl<K: Key, H: Line<K>, R: Line<K>> Game<K, H, R> {
     // The numbers of the bench, the two sides of its bound, and the order of its lines.
     pub(crate) fn report(&self, rt: &HostRuntime) -> io::Result<()> {
         let ledger = self.standing.ledger();

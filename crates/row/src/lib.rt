@@ -6,7 +6,7 @@ ghost use Rattle.lines.specs.Orders.{key_at, taken_out};
 ghost use Rattle.lines.specs.Places.{place_of, Different, limit_for};
 
 use keys::{Denial, Key};
-use lines::{Line, Orderly, is_place, may_exchange};
+use lines::{Line, is_place, may_exchange};
 
 // The first `count` cells hold the keys, which differ; what the other cells hold means nothing.
 #[derive(Drop)]
@@ -71,11 +71,18 @@ fn close_up<K: Key>(cells: &mut [K], place: usize, count: usize)
 }
 
 impl<'a, K: Key> Line<K> for Row<'a, K> {
+    ghost use Rattle.row.specs.Laws.{keys-within, limit-bounded};
     ghost use Rattle.row.specs.Rows.{row_keys, row_limit};
 
     ghost keys = { row_keys };
 
     ghost limit = { row_limit };
+
+    ghost different = { λ s. s.differ };
+
+    ghost within = { λ s. keys-within s };
+
+    ghost bounded = { λ s. limit-bounded s };
 
     fn count(&self) -> usize {
         self.keys().len()
@@ -121,15 +128,4 @@ impl<'a, K: Key> Line<K> for Row<'a, K> {
         self.cells.swap(place - 1, place);
         Ok(())
     }
-}
-
-// The laws of a line hold of rows.
-impl<'a, K: Key> Orderly<K> for Row<'a, K> {
-    ghost use Rattle.row.specs.Laws.{keys-within, limit-bounded};
-
-    ghost different = { λ s. s.differ };
-
-    ghost within = { λ s. keys-within s };
-
-    ghost bounded = { λ s. limit-bounded s };
 }

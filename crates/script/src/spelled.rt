@@ -2,13 +2,13 @@
 ghost use Rattle.std.specs.Prelude.{◌≡◌, IfOk};
 
 use keys::Key;
-use lines::Orderly;
+use lines::Line;
 use std::alloc::{AllocError, Global};
 use std::fmt;
 use std::fmt::Write;
 
 // The keys of a line, in order.
-pub fn keys_of<K: Key, L: Orderly<K>>(heap: Global, line: &L) -> Result<Vec<K>, AllocError>
+pub fn keys_of<K: Key, L: Line<K>>(heap: Global, line: &L) -> Result<Vec<K>, AllocError>
     ensures { IfOk result (λ v. v.items ≡ L.Line.keys line.now) }
 {
     let mut keys = Vec::new(heap);
@@ -42,7 +42,7 @@ impl fmt::Display for Hex<'_> {
 }
 
 // The keys of a line in order, each as its spelling in small hex behind a space.
-pub fn order_text<K: Key, L: Orderly<K>>(heap: Global, line: &L) -> Result<String, AllocError> {
+pub fn order_text<K: Key, L: Line<K>>(heap: Global, line: &L) -> Result<String, AllocError> {
     let mut text = String::new(heap);
     for key in keys_of(heap, line)? {
         let spelling = spell(heap, &key)?;

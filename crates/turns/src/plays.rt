@@ -6,11 +6,11 @@ ghost use Rattle.turns.specs.Onward.{asked_of, Taken, resuming, Continues, UpToG
 use super::blame::{Records, said_of, said_of_request};
 use bench::Running;
 use keys::{Denial, Key};
-use lines::{Line, Orderly};
+use lines::Line;
 use logs::{Fault, Log, Move, PlanReader, Request};
 
 // Makes a request with its goal; the records are its own in the page and its goal's in the plan.
-pub fn make_request<K: Key, H: Orderly<K>, R: Orderly<K>>(
+pub fn make_request<K: Key, H: Line<K>, R: Line<K>>(
     bench: &mut Running,
     house: &mut H,
     rival: &mut R,
@@ -44,7 +44,7 @@ fn next_move(plan: &mut PlanReader<'_>) -> Result<Move, Fault>
 }
 
 // Makes the exchanges that the plan has before its next goal, and gives that goal.
-fn play_exchanges<K: Key, H: Orderly<K>, R: Orderly<K>>(
+fn play_exchanges<K: Key, H: Line<K>, R: Line<K>>(
     bench: &mut Running,
     house: &H,
     rival: &mut R,
@@ -54,9 +54,9 @@ fn play_exchanges<K: Key, H: Orderly<K>, R: Orderly<K>>(
 {
     loop {
         match next_move(plan)? {
-            Move::Goal(goal) => return Ok(goal as usize),
+            Move::Goal(goal) => return Ok(usize::from(goal)),
             Move::Exchange(place) => {
-                let done = bench.exchange(house, rival, place as usize);
+                let done = bench.exchange(house, rival, usize::from(place));
                 said_of(Log::Plan, plan.passed(), done)?;
             }
         }
@@ -64,7 +64,7 @@ fn play_exchanges<K: Key, H: Orderly<K>, R: Orderly<K>>(
 }
 
 // Serves a request of the page, read at its record of this number: the plan's exchanges, and then the request with the plan's goal.
-pub fn serve<K: Key, H: Orderly<K>, R: Orderly<K>>(
+pub fn serve<K: Key, H: Line<K>, R: Line<K>>(
     bench: &mut Running,
     house: &mut H,
     rival: &mut R,

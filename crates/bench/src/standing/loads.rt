@@ -9,10 +9,10 @@ use super::super::effect::{append_both, kept};
 use super::super::ledger::Ledger;
 use super::{Loading, Running};
 use keys::{Denial, Key};
-use lines::{Line, Orderly};
+use lines::Line;
 
 // Whether no key stands in either line.
-fn both_empty<K: Key, H: Orderly<K>, R: Orderly<K>>(house: &H, rival: &R) -> bool
+fn both_empty<K: Key, H: Line<K>, R: Line<K>>(house: &H, rival: &R) -> bool
     ensures { result ≡ both_empty (H.Line.keys house.now) (R.Line.keys rival.now) }
 {
     house.count() == 0 && rival.count() == 0
@@ -20,7 +20,7 @@ fn both_empty<K: Key, H: Orderly<K>, R: Orderly<K>>(house: &H, rival: &R) -> boo
 
 impl Loading {
     // Opens a bench on two empty lines.
-    pub fn open<K: Key, H: Orderly<K>, R: Orderly<K>>(
+    pub fn open<K: Key, H: Line<K>, R: Line<K>>(
         house: &H,
         rival: &R,
     ) -> Result<Loading, Denial>
@@ -35,7 +35,7 @@ impl Loading {
     }
 
     // Appends a key on both sides, at no cost.
-    pub fn load<K: Key, H: Orderly<K>, R: Orderly<K>>(
+    pub fn load<K: Key, H: Line<K>, R: Line<K>>(
         &mut self,
         house: &mut H,
         rival: &mut R,
@@ -53,7 +53,7 @@ impl Loading {
     }
 
     // Ends the loading.
-    pub fn start<K: Key, H: Orderly<K>, R: Orderly<K>>(self, house: &H, rival: &R) -> Running
+    pub fn start<K: Key, H: Line<K>, R: Line<K>>(self, house: &H, rival: &R) -> Running
         ensures { Called K.Key.own H.Line R.Line start house.now rival.now self.ledger (Ok tt) house.now rival.now result.ledger }
     {
         let ledger = kept(self.ledger, house, rival);

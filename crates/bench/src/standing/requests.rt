@@ -8,11 +8,11 @@ use super::super::effect::{append_both, bring_both, kept, take_both};
 use super::super::ledger::{COUNTER_LIMIT, Ledger};
 use super::{Closed, Running};
 use keys::{Denial, Key};
-use lines::{Line, Orderly};
+use lines::Line;
 
 impl Running {
     // A lookup: each side pays the key's place; then the house's key goes to the front and the rival's to the goal.
-    pub fn lookup<K: Key, H: Orderly<K>, R: Orderly<K>>(
+    pub fn lookup<K: Key, H: Line<K>, R: Line<K>>(
         &mut self,
         house: &mut H,
         rival: &mut R,
@@ -33,7 +33,7 @@ impl Running {
     }
 
     // An addition: each side pays one more than its count; the key is appended, then moved as after a lookup.
-    pub fn add<K: Key, H: Orderly<K>, R: Orderly<K>>(
+    pub fn add<K: Key, H: Line<K>, R: Line<K>>(
         &mut self,
         house: &mut H,
         rival: &mut R,
@@ -55,7 +55,7 @@ impl Running {
     }
 
     // A removal: each side pays the key's place, and the key is taken out.
-    pub fn remove<K: Key, H: Orderly<K>, R: Orderly<K>>(
+    pub fn remove<K: Key, H: Line<K>, R: Line<K>>(
         &mut self,
         house: &mut H,
         rival: &mut R,
@@ -75,7 +75,7 @@ impl Running {
     }
 
     // A paid exchange of the rival's keys at a place and at the next one. The house is not touched.
-    pub fn exchange<K: Key, H: Orderly<K>, R: Orderly<K>>(
+    pub fn exchange<K: Key, H: Line<K>, R: Line<K>>(
         &mut self,
         house: &H,
         rival: &mut R,
@@ -92,7 +92,7 @@ impl Running {
     }
 
     // Ends the requests.
-    pub fn close<K: Key, H: Orderly<K>, R: Orderly<K>>(self, house: &H, rival: &R) -> Closed
+    pub fn close<K: Key, H: Line<K>, R: Line<K>>(self, house: &H, rival: &R) -> Closed
         ensures { Called K.Key.own H.Line R.Line close house.now rival.now self.ledger (Ok tt) house.now rival.now result.ledger }
     {
         let ledger = kept(self.ledger, house, rival);

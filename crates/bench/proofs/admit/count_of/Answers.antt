@@ -4,8 +4,8 @@ use Rattle.bench.proofs.admit.count_of.Goals as goal
 
 pub returns : goal.returns
 returns g c =
-    let within = g.met.L.Orderly.within c.args.line.now in
-    let bounded = g.met.L.Orderly.bounded c.args.line.now in
+    let within = g.met.L.Line.within c.args.line.now in
+    let bounded = g.met.L.Line.bounded c.args.line.now in
     record {
       value = c.count.ensures ∙ sym (length-map (g.L.Line.keys c.args.line.now) g.K.Key.value);
       bound = omega (arith, c.count.ensures);

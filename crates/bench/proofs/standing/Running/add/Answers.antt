@@ -31,10 +31,10 @@ bring_both-requires g c =
 pub served-self-requires : goal.served-self-requires
 served-self-requires g c =
     let a = add-ready g.K.Key g.H.Line g.R.Line g.met.K.Key.decides c.args.key c.args.house.now c.args.rival.now c.args.self.now.ledger c.in_ok-places.places c.args.goal c.admit_add.ensures c.in_ok-places.was in
-    let hw = g.met.H.Orderly.within c.args.house.now in
-    let hb = g.met.H.Orderly.bounded c.args.house.now in
-    let rw' = g.met.R.Orderly.within c.args.rival.now in
-    let rb = g.met.R.Orderly.bounded c.args.rival.now in
+    let hw = g.met.H.Line.within c.args.house.now in
+    let hb = g.met.H.Line.bounded c.args.house.now in
+    let rw' = g.met.R.Line.within c.args.rival.now in
+    let rb = g.met.R.Line.bounded c.args.rival.now in
     omega arith
 
 pub returns : goal.returns
