@@ -62,11 +62,7 @@ pub(crate) fn take_both<K: Key, H: Line<K>, R: Line<K>>(
 }
 
 // The ledger as it is: starting and closing keep it, and the lines.
-pub(crate) fn kept<K: Key, H: Line<K>, R: Line<K>>(
-    ledger: Ledger,
-    house: &H,
-    rival: &R,
-) -> Ledger
+pub(crate) fn kept<K: Key, H: Line<K>, R: Line<K>>(ledger: Ledger, house: &H, rival: &R) -> Ledger
     ensures starts { Called K.Key.own H.Line R.Line start house.now rival.now ledger (Ok tt) house.now rival.now result }
     ensures closes { Called K.Key.own H.Line R.Line close house.now rival.now ledger (Ok tt) house.now rival.now result }
 {

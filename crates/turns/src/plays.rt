@@ -54,9 +54,9 @@ fn play_exchanges<K: Key, H: Line<K>, R: Line<K>>(
 {
     loop {
         match next_move(plan)? {
-            Move::Goal(goal) => return Ok(usize::from(goal)),
+            Move::Goal(goal) => return Ok(goal as usize),
             Move::Exchange(place) => {
-                let done = bench.exchange(house, rival, usize::from(place));
+                let done = bench.exchange(house, rival, place as usize);
                 said_of(Log::Plan, plan.passed(), done)?;
             }
         }

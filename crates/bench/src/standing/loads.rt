@@ -20,10 +20,7 @@ fn both_empty<K: Key, H: Line<K>, R: Line<K>>(house: &H, rival: &R) -> bool
 
 impl Loading {
     // Opens a bench on two empty lines.
-    pub fn open<K: Key, H: Line<K>, R: Line<K>>(
-        house: &H,
-        rival: &R,
-    ) -> Result<Loading, Denial>
+    pub fn open<K: Key, H: Line<K>, R: Line<K>>(house: &H, rival: &R) -> Result<Loading, Denial>
         ensures { meant (λ (s : Loading). bench_of K.Key.own H.Line R.Line house.now rival.now s.ledger) result ≡ opened K.Key.own H.Line R.Line house.now rival.now }
     {
         if !both_empty(house, rival) {
