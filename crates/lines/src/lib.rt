@@ -9,7 +9,7 @@ mod places;
 
 use keys::{Denial, Key};
 use places::may_bring_forward;
-pub use places::{is_place, may_exchange};
+pub use places::{is_place, limit_for, may_exchange};
 
 // A line means a list of keys in order and a limit, the most keys that it takes. Places count from 1.
 pub trait Line<K: Key> {
@@ -61,6 +61,7 @@ pub trait Line<K: Key> {
         if !may_bring_forward(from, to, self.count()) {
             return Err(Denial::OutOfRange);
         }
+        // Each place goes to a call that may deny; nothing is indexed.
         for place in (to..from).rev() {
             self.exchange(place)?;
         }
