@@ -97,9 +97,7 @@ impl<'a, H, R> Seen<'a, H, R> {
         }
         let house_count = count_of(self.house);
         let rival_count = count_of(self.rival);
-        let house_limit = self.house.limit();
-        let rival_limit = self.rival.limit();
-        if house_count == house_limit || rival_count == rival_limit {
+        if self.house.is_full() || self.rival.is_full() {
             return Err(Denial::Full);
         }
         Ok(Places {

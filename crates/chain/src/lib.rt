@@ -151,13 +151,6 @@ impl<'a, K: Key> Chain<'a, K> {
         walk(self.cells, self.head, steps)
     }
 
-    // Whether the chain takes no more keys.
-    fn is_full(&self) -> bool
-        ensures { result ≡ (self.now.count == room self.now.cells.now) }
-    {
-        self.count == used(self.cells)
-    }
-
     // The key at one of the chain's places.
     fn key(&self, place: usize) -> K
         requires { (1 ≤ place) × (place ≤ self.now.count) }

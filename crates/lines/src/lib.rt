@@ -1,7 +1,7 @@
 // Lines: ordered lists of different keys.
 #![tactic(auto)]
 
-ghost use Rattle.std.specs.Prelude.{◌≡◌, ℕ, ◌≤◌, Bool, List, map, length};
+ghost use Rattle.std.specs.Prelude.{◌≡◌, ℕ, ◌≤◌, Bool, List, map, length, ◌==◌};
 ghost use Rattle.lines.specs.Orders.{allowed, key_at, is_place, taken_out, may_exchange, exchanged, may_bring_forward, brought_forward};
 ghost use Rattle.lines.specs.Places.{place_of, appended, Different};
 
@@ -51,6 +51,13 @@ pub trait Line<K: Key> {
         ensures limit { limit self.new ≡ limit self.old }
         ensures gives { result ≡ allowed (may_exchange place (length (keys self.old))) }
         ensures keys { keys self.new ≡ exchanged place (keys self.old) };
+
+    // Whether the line takes no more keys.
+    fn is_full(&self) -> bool
+        ensures { result ≡ (length (keys self.now) == limit self.now) }
+    {
+        self.count() == self.limit()
+    }
 
     // Brings the key at `from` forward to `to`, by exchanges; a line may have a quicker way.
     fn bring_forward(&mut self, from: usize, to: usize) -> Result<(), Denial>

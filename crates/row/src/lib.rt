@@ -34,13 +34,6 @@ impl<'a, K: Key> Row<'a, K> {
     {
         &self.cells[..self.count]
     }
-
-    // Whether the row takes no more keys.
-    fn is_full(&self) -> bool
-        ensures { result ≡ (self.now.count == row_limit self.now) }
-    {
-        self.count == self.limit()
-    }
 }
 
 // The key at a place among keys.
