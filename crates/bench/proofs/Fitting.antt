@@ -1,5 +1,5 @@
 -- A key that passed the checks of a load is appended on both sides.
-use Rattle.std.proofs.Common.{◌≡◌, ℕ, Bool, false, eqb, List, [], ◌∷◌, ◌++◌, map, length, None, Ok, Err, Result, refl, ◌∙◌, arith}
+use Rattle.std.proofs.Common.{◌≡◌, ℕ, ◌≤◌, Bool, false, eqb, List, [], ◌∷◌, ◌++◌, map, length, None, Ok, Err, Result, refl, ◌∙◌, arith}
 use lib.ListN.{length-map}
 use Rattle.std.proofs.lemmas.Bool.{or_parts}
 use Rattle.keys.specs.declared.denial.Denial.{Denial}
@@ -10,6 +10,10 @@ use Rattle.reckoning.specs.Reckoning.{checks, load, zeros}
 use Rattle.reckoning.proofs.Bound.{AllPass, passes, matched}
 use Rattle.bench.specs.Benches.{limits_of}
 use Rattle.bench.specs.Admission.{load_failed}
+
+-- a line's keys are no more than 256, by its laws
+pub few : {H K : Type 0} (line : LineMeaning H K) → ((s : H) → length (line.keys s) ≤ line.limit s) → ((s : H) → line.limit s ≤ 256) → (s : H) → length (line.keys s) ≤ 256
+few line within bounded s = omega (arith, within s, bounded s)
 
 -- what succeeded was not denied
 pub ok-not-err : {r : Result (Unit {0}) Denial} {d : Denial} → r ≡ Ok tt → r ≡ Err d → ⊥

@@ -1,6 +1,7 @@
 // The checks of each call, in their order, before anything is changed.
-ghost use Rattle.std.specs.Prelude.{◌≡◌, ◌≤◌, map, length};
-ghost use Rattle.reckoning.specs.Reckoning.{outside, lookup, add, remove};
+ghost use Rattle.std.specs.Prelude.{◌≡◌, ◌≤◌, cond, map, length, Ok, Err, ◌==◌};
+ghost use Rattle.keys.specs.declared.denial.Denial.TheVariants.{Exhausted, BadGoal};
+ghost use Rattle.reckoning.specs.Reckoning.{most, outside, lookup, add, remove};
 ghost use Rattle.bench.specs.Admission.{admitted, failed, load_failed, found, places_of, next_places};
 
 use super::ledger::{COUNTER_LIMIT, Ledger};
@@ -30,14 +31,27 @@ fn count_of<K: Key, L: Line<K>>(line: &L) -> usize
     line.count()
 }
 
-// Whether a goal is not from 1 to the place.
-fn is_outside(goal: usize, place: usize) -> bool
-    ensures { result ≡ outside goal place }
+// Denies a goal that is not from 1 to the place.
+fn check_goal(goal: usize, place: usize) -> Result<(), Denial>
+    ensures { result ≡ cond (outside goal place) (Err BadGoal) (Ok tt) }
 {
-    !is_place(goal, place)
+    if !is_place(goal, place) {
+        return Err(Denial::BadGoal);
+    }
+    Ok(())
 }
 
 impl<'a, H, R> Seen<'a, H, R> {
+    // Denies a request where no more are counted.
+    fn check_counter(&self) -> Result<(), Denial>
+        ensures { result ≡ cond (self.now.ledger.requests == most) (Err Exhausted) (Ok tt) }
+    {
+        if self.ledger.requests == COUNTER_LIMIT {
+            return Err(Denial::Exhausted);
+        }
+        Ok(())
+    }
+
     // The places of a key that stands on both sides, or none where it stands on neither.
     fn find<K: Key>(&self, key: &K) -> Result<Option<Places>, Denial>
     where
@@ -65,9 +79,7 @@ impl<'a, H, R> Seen<'a, H, R> {
         R: Line<K>,
         ensures { result ≡ admitted (failed K.Key.own H.Line R.Line (remove (K.Key.value key.now)) self.now.house.now self.now.rival.now self.now.ledger) (places_of K.Key.own H.Line R.Line key.now self.now.house.now self.now.rival.now) }
     {
-        if self.ledger.requests == COUNTER_LIMIT {
-            return Err(Denial::Exhausted);
-        }
+        self.check_counter()?;
         self.find(key)?.ok_or(Denial::Absent)
     }
 
@@ -79,9 +91,7 @@ impl<'a, H, R> Seen<'a, H, R> {
         ensures { result ≡ admitted (failed K.Key.own H.Line R.Line (lookup (K.Key.value key.now) goal) self.now.house.now self.now.rival.now self.now.ledger) (places_of K.Key.own H.Line R.Line key.now self.now.house.now self.now.rival.now) }
     {
         let places = self.admit_remove(key)?;
-        if is_outside(goal, places.rival) {
-            return Err(Denial::BadGoal);
-        }
+        check_goal(goal, places.rival)?;
         Ok(places)
     }
 
@@ -97,9 +107,7 @@ impl<'a, H, R> Seen<'a, H, R> {
         }
         let house_count = count_of(self.house);
         let rival_count = count_of(self.rival);
-        let house_limit = self.house.limit();
-        let rival_limit = self.rival.limit();
-        if house_count == house_limit || rival_count == rival_limit {
+        if self.house.is_full() || self.rival.is_full() {
             return Err(Denial::Full);
         }
         Ok(Places {
@@ -115,13 +123,9 @@ impl<'a, H, R> Seen<'a, H, R> {
         R: Line<K>,
         ensures { result ≡ admitted (failed K.Key.own H.Line R.Line (add (K.Key.value key.now) goal) self.now.house.now self.now.rival.now self.now.ledger) (next_places K.Key.own H.Line R.Line self.now.house.now self.now.rival.now) }
     {
-        if self.ledger.requests == COUNTER_LIMIT {
-            return Err(Denial::Exhausted);
-        }
+        self.check_counter()?;
         let places = self.admit_load(key)?;
-        if is_outside(goal, places.rival) {
-            return Err(Denial::BadGoal);
-        }
+        check_goal(goal, places.rival)?;
         Ok(places)
     }
 }

@@ -21,33 +21,27 @@ impl Ledger {
     }
 
     // One request more: each side pays its place, and the rival makes `moved` free exchanges.
-    pub(crate) fn served(self, places: Places, moved: usize) -> Ledger
+    pub(crate) fn served(mut self, places: Places, moved: usize) -> Ledger
         requires counted { self.requests < most }
         requires house { places.house ≤ 256 }
         requires rival { places.rival ≤ 256 }
         requires moved { moved < places.rival }
         ensures { sums_of result ≡ served places.house places.rival moved (sums_of self) }
     {
-        Ledger {
-            requests: self.requests + 1,
-            house: self.house + places.house as u32,
-            rival: self.rival + places.rival as u32,
-            paid: self.paid,
-            free: self.free + moved as u32,
-        }
+        // No place is above 256, so `as` loses nothing.
+        self.requests += 1;
+        self.house += places.house as u32;
+        self.rival += places.rival as u32;
+        self.free += moved as u32;
+        self
     }
 
     // One paid exchange more.
-    pub(crate) fn exchanged(self) -> Ledger
+    pub(crate) fn exchanged(mut self) -> Ledger
         requires { self.paid < most }
         ensures { sums_of result ≡ paid_for (sums_of self) }
     {
-        Ledger {
-            requests: self.requests,
-            house: self.house,
-            rival: self.rival,
-            paid: self.paid + 1,
-            free: self.free,
-        }
+        self.paid += 1;
+        self
     }
 }

@@ -1,4 +1,5 @@
-// What the calls do to the two lines, once their checks have passed.
+// What the calls do to the two lines, once their checks have passed. The lines stay apart, as they are lent: a struct of two `&mut` would be
+// made anew in each call, and each contract would have to say that it still holds the same ones.
 ghost use Rattle.std.specs.Prelude.{◌≡◌, ◌≤◌, [], ◌∷◌, ◌++◌, length, None, Ok};
 ghost use Rattle.lines.specs.Orders.{taken_out, brought_forward};
 ghost use Rattle.reckoning.specs.Reckoning.{start, close};

@@ -1,4 +1,5 @@
-// The three standings of a bench: loading, then running, then closed. None goes back, and only `open` makes one.
+// The three standings of a bench: loading, then running, then closed. None goes back, and only `open` makes one. Each is a type of plain
+// numbers with a `ledger` of its own, so that what may be called is seen in the type.
 mod loads;
 mod progress;
 mod requests;

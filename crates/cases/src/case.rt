@@ -24,10 +24,7 @@ fn read_best(word: &str) -> Result<Option<u32>, Fault> {
         return Ok(None);
     }
     let best = read_number(word).ok_or(Fault::NoCall)?;
-    match u32::try_from(best) {
-        Ok(best) => Ok(Some(best)),
-        Err(_) => Err(Fault::NoCall),
-    }
+    u32::try_from(best).map(Some).map_err(|_| Fault::NoCall)
 }
 
 // The case that a line has: the page, the plan and the best figure, separated by one space.

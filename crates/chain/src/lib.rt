@@ -8,7 +8,7 @@ ghost use Rattle.chain.specs.Ways.{way, beyond, redirected, moved_back};
 ghost use Rattle.chain.specs.Chains.{keys_in, nexts_in, room, chained, Whole};
 
 use keys::{Denial, Key};
-use lines::{Line, is_place, may_exchange};
+use lines::{Line, is_place, limit_for, may_exchange};
 
 // A cell has a key and the number of the next cell.
 #[derive(Clone, Copy)]
@@ -17,7 +17,7 @@ pub struct Cell<K> {
     pub next: usize,
 }
 
-// The cell that a walk of `steps` cells from `from` leads to.
+// The cell that a walk of `steps` cells from `from` leads to. It follows the cells' links, so no iterator of the slice does it.
 fn walk<K: Key>(cells: &[Cell<K>], from: usize, steps: usize) -> usize
     requires { length (way (nexts_in cells.now) from steps) ≡ steps }
     ensures { result ≡ beyond (nexts_in cells.now) from steps }
@@ -110,7 +110,7 @@ fn link<K: Key>(cells: &mut [Cell<K>])
 fn used<K: Key>(cells: &[Cell<K>]) -> usize
     ensures { result ≡ room cells.now }
 {
-    cells.len().min(256)
+    limit_for(cells.len())
 }
 
 // A line of linked cells. One way runs from `head` through all cells that the chain uses and meets none twice: first through the `count`
@@ -149,13 +149,6 @@ impl<'a, K: Key> Chain<'a, K> {
         ensures beyond { result ≡ beyond (nexts_in self.now.cells.now) self.now.head steps }
     {
         walk(self.cells, self.head, steps)
-    }
-
-    // Whether the chain takes no more keys.
-    fn is_full(&self) -> bool
-        ensures { result ≡ (self.now.count == room self.now.cells.now) }
-    {
-        self.count == used(self.cells)
     }
 
     // The key at one of the chain's places.
@@ -225,6 +218,7 @@ impl<'a, K: Key> Line<K> for Chain<'a, K> {
         find(self.cells, self.head, self.count, key)
     }
 
+    // As a row does it, but for the cell: one body for both would need a call of the trait that writes into a free cell.
     fn append(&mut self, key: K) -> Result<(), Denial> {
         if self.place_of(&key).is_some() {
             return Err(Denial::Present);

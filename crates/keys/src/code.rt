@@ -7,7 +7,7 @@ use super::denial::Denial;
 use super::front::write_front;
 use super::key::Key;
 
-#[derive(Clone, Copy, PartialEq, Eq, Debug)]
+#[derive(Clone, Copy, PartialEq, Eq, Default, Debug)]
 pub struct Code {
     pub number: u16,
 }

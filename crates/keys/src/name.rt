@@ -14,7 +14,7 @@ use super::front::write_front;
 use super::key::Key;
 
 // A record means a name whatever it holds: `meant_bytes` and `meant_len` say which.
-#[derive(Clone, Copy, Debug)]
+#[derive(Clone, Copy, Default, Debug)]
 pub struct Name {
     pub bytes: [u8; 16],
     pub len: u8,

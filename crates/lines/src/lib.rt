@@ -1,7 +1,7 @@
 // Lines: ordered lists of different keys.
 #![tactic(auto)]
 
-ghost use Rattle.std.specs.Prelude.{◌≡◌, ℕ, ◌≤◌, Bool, List, map, length};
+ghost use Rattle.std.specs.Prelude.{◌≡◌, ℕ, ◌≤◌, Bool, List, map, length, ◌==◌};
 ghost use Rattle.lines.specs.Orders.{allowed, key_at, is_place, taken_out, may_exchange, exchanged, may_bring_forward, brought_forward};
 ghost use Rattle.lines.specs.Places.{place_of, appended, Different};
 
@@ -9,7 +9,7 @@ mod places;
 
 use keys::{Denial, Key};
 use places::may_bring_forward;
-pub use places::{is_place, may_exchange};
+pub use places::{is_place, limit_for, may_exchange};
 
 // A line means a list of keys in order and a limit, the most keys that it takes. Places count from 1.
 pub trait Line<K: Key> {
@@ -52,6 +52,13 @@ pub trait Line<K: Key> {
         ensures gives { result ≡ allowed (may_exchange place (length (keys self.old))) }
         ensures keys { keys self.new ≡ exchanged place (keys self.old) };
 
+    // Whether the line takes no more keys.
+    fn is_full(&self) -> bool
+        ensures { result ≡ (length (keys self.now) == limit self.now) }
+    {
+        self.count() == self.limit()
+    }
+
     // Brings the key at `from` forward to `to`, by exchanges; a line may have a quicker way.
     fn bring_forward(&mut self, from: usize, to: usize) -> Result<(), Denial>
         ensures limit { limit self.new ≡ limit self.old }
@@ -61,6 +68,7 @@ pub trait Line<K: Key> {
         if !may_bring_forward(from, to, self.count()) {
             return Err(Denial::OutOfRange);
         }
+        // Each place goes to a call that may deny; nothing is indexed.
         for place in (to..from).rev() {
             self.exchange(place)?;
         }

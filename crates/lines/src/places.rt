@@ -1,6 +1,14 @@
-// Which places a call of a line may name, where it has `count` keys.
+// How many keys a line takes over its cells, and which places its calls may name, where it has `count` keys.
 ghost use Rattle.std.specs.Prelude.{◌≡◌};
 ghost use Rattle.lines.specs.Orders.{is_place, may_exchange, may_bring_forward};
+ghost use Rattle.lines.specs.Places.{limit_for};
+
+// The most keys that a line over so many cells takes.
+pub fn limit_for(cells: usize) -> usize
+    ensures { result ≡ limit_for cells }
+{
+    cells.min(256)
+}
 
 // Whether a place is one of `count`.
 pub fn is_place(place: usize, count: usize) -> bool

@@ -114,6 +114,7 @@ fn page_record<K: Key>(body: &[u8], requested: bool) -> Result<PageRecord<&[u8]>
 #[derive(Drop)]
 pub struct PageReader<'a> {
     cursor: Cursor<'a>,
+    // In which part of the page the reader stands; no value goes with it.
     requested: bool,
 }
 

@@ -36,7 +36,8 @@ fn plan_move(body: &[u8]) -> Result<Move, Denial>
     move_by(*letter, u16::from_be_bytes([*high, *low]))
 }
 
-// A reader of a plan log: a place in it.
+// A reader of a plan log: a place in it. `is_done` and `passed` stand on both readers: a trait for four lines would need a ghost member,
+// two impls and an import wherever they are asked.
 #[derive(Drop)]
 pub struct PlanReader<'a> {
     cursor: Cursor<'a>,

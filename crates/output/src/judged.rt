@@ -1,4 +1,4 @@
-// Two logs, judged on two rows of 256 cells.
+// Two logs, judged on two rows of 256 cells, which lie on the stack: no heap is used.
 ghost use Rattle.std.specs.Prelude.{◌≡◌, length, cond, Ok, Err};
 ghost use Rattle.keys.specs.declared.denial.Denial.TheVariants.{TooLong};
 ghost use Rattle.acceptance.specs.Scripts.{fault_on};
@@ -41,13 +41,10 @@ fn judge_by_kind(page: &[u8], plan: &[u8]) -> Result<Ledger, Fault>
     ensures { numbers_of result ≡ answer page.now plan.now }
 {
     if is_of_names(page) {
-        let filler = Name {
-            bytes: [b'-'; 16],
-            len: 1,
-        };
+        let filler = Name::default();
         return judge_on_rows(&mut [filler; 256], &mut [filler; 256], page, plan);
     }
-    let filler = Code { number: 0 };
+    let filler = Code::default();
     judge_on_rows(&mut [filler; 256], &mut [filler; 256], page, plan)
 }
 

@@ -22,13 +22,7 @@ fn main(rt: HostRuntime) -> io::Result<()> {
     let house = opening.house();
     let rival = opening.rival();
     match opening.kind() {
-        Kind::Codes => seat(&rt, house, rival, Code { number: 0 }, calls),
-        Kind::Names => {
-            let filler = Name {
-                bytes: [b'-'; 16],
-                len: 1,
-            };
-            seat(&rt, house, rival, filler, calls)
-        }
+        Kind::Codes => seat(&rt, house, rival, Code::default(), calls),
+        Kind::Names => seat(&rt, house, rival, Name::default(), calls),
     }
 }

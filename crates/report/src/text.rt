@@ -1,4 +1,5 @@
-// Texts written to the front of a lent buffer.
+// Texts written to the front of a lent buffer. They are not made by `write!`, which promises only what holds where it succeeds: here every
+// text has to be whole, and no heap is used.
 ghost use Rattle.std.specs.Prelude.{◌≡◌, ◌+◌, ◌%◌, ◌<◌, ◌≤◌, [], ◌∷◌, ◌++◌, length, cond, decimal, Ok, Err, nat_lt};
 ghost use Rattle.keys.specs.declared.denial.Denial.TheVariants.{NoRoom};
 ghost use Rattle.report.specs.Lines.{item};

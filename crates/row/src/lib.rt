@@ -6,7 +6,7 @@ ghost use Rattle.lines.specs.Orders.{key_at, taken_out};
 ghost use Rattle.lines.specs.Places.{place_of, Different, limit_for};
 
 use keys::{Denial, Key};
-use lines::{Line, is_place, may_exchange};
+use lines::{Line, is_place, limit_for, may_exchange};
 
 // The first `count` cells hold the keys, which differ; what the other cells hold means nothing.
 #[derive(Drop)]
@@ -33,13 +33,6 @@ impl<'a, K: Key> Row<'a, K> {
         ensures { result.now ≡ row_keys self.now }
     {
         &self.cells[..self.count]
-    }
-
-    // Whether the row takes no more keys.
-    fn is_full(&self) -> bool
-        ensures { result ≡ (self.now.count == row_limit self.now) }
-    {
-        self.count == self.limit()
     }
 }
 
@@ -89,7 +82,7 @@ impl<'a, K: Key> Line<K> for Row<'a, K> {
     }
 
     fn limit(&self) -> usize {
-        self.cells.len().min(256)
+        limit_for(self.cells.len())
     }
 
     fn key_at(&self, place: usize) -> Result<K, Denial> {

@@ -1,4 +1,5 @@
-// A request, as page and plan give it: the plan's exchanges, and then the request with its goal.
+// A request, as page and plan give it: the plan's exchanges, and then the request with its goal. Bench and lines are handed on apart, as
+// the judge is lent them: a struct of them would have to say in each contract that it still holds the same lines.
 ghost use Rattle.std.specs.Prelude.{◌≡◌};
 ghost use Rattle.acceptance.specs.Scripts.{Script, requesting};
 ghost use Rattle.turns.specs.Onward.{asked_of, Taken, resuming, Continues, UpToGoal, Serves};

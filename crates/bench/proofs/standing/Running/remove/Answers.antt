@@ -2,6 +2,7 @@ use Rattle.std.proofs.Common.{Err, sym, refl, ap, ◌∙◌, arith}
 use Rattle.std.proofs.lemmas.Result.{err_from_is_err_and}
 use Rattle.reckoning.specs.Reckoning.{remove}
 use Rattle.bench.specs.Admission.{failed, places_of}
+use Rattle.bench.proofs.Fitting.{few}
 use Rattle.bench.proofs.Calls.{admitted-err, denied-call, done-call}
 use Rattle.bench.proofs.Effects.{remove-ready, remove-done}
 use Rattle.bench.proofs.standing.Running.remove.Goals as goal
@@ -20,10 +21,8 @@ take_both-requires g c =
 pub served-self-requires : goal.served-self-requires
 served-self-requires g c =
     let a = remove-ready g.K.Key g.H.Line g.R.Line g.met.K.Key.decides c.args.key c.args.house.now c.args.rival.now c.args.self.now.ledger c.in_ok-places.places c.admit_remove.ensures c.in_ok-places.was in
-    let hw = g.met.H.Line.within c.args.house.now in
-    let hb = g.met.H.Line.bounded c.args.house.now in
-    let rw' = g.met.R.Line.within c.args.rival.now in
-    let rb = g.met.R.Line.bounded c.args.rival.now in
+    let h = few g.H.Line g.met.H.Line.within g.met.H.Line.bounded c.args.house.now in
+    let r = few g.R.Line g.met.R.Line.within g.met.R.Line.bounded c.args.rival.now in
     omega arith
 
 pub returns : goal.returns
