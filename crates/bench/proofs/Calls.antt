@@ -1,5 +1,5 @@
 -- What a call of a bench promises, from its checks and its effect.
-use Rattle.std.proofs.Common.{◌≡◌, ℕ, ◌<◌, ◌≤◌, Bool, true, false, Some, None, Ok, Err, Decides, Option, Result, sym, refl, ap, ◌∙◌, arith}
+use Rattle.std.proofs.Common.{◌≡◌, ℕ, ◌<◌, ◌≤◌, Bool, true, false, cond, Some, None, Ok, Err, Decides, Option, Result, sym, refl, ap, ◌∙◌, arith}
 use Rattle.std.proofs.lemmas.Bool.Decides.{nat_tests}
 use Rattle.keys.specs.declared.denial.Denial.{Denial}
 use Rattle.keys.specs.declared.denial.Denial.TheVariants.{OutOfRange}
@@ -29,6 +29,14 @@ allowed-err false p q = (refl, cc)
 pub allowed-ok : (b : Bool) {r : Result (Unit {0}) Denial} {u : Unit {0}} → r ≡ allowed b → r ≡ Ok u → b ≡ true
 allowed-ok true p q = refl
 allowed-ok false p q = let z : ◌≡◌ {A = ℕ} 0 1 = cc in absurd (omega arith)
+
+pub checked-err : (b : Bool) (check : Denial) {r : Result (Unit {0}) Denial} {d : Denial} → r ≡ cond b (Err check) (Ok tt) → r ≡ Err d → (b ≡ true) × (d ≡ check)
+checked-err true check p q = (refl, cc)
+checked-err false check p q = let z : ◌≡◌ {A = ℕ} 0 1 = cc in absurd (omega arith)
+
+pub checked-ok : (b : Bool) (check : Denial) {r : Result (Unit {0}) Denial} {u : Unit {0}} → r ≡ cond b (Err check) (Ok tt) → r ≡ Ok u → b ≡ false
+checked-ok true check p q = let z : ◌≡◌ {A = ℕ} 0 1 = cc in absurd (omega arith)
+checked-ok false check p q = refl
 
 pub past-exchange : (place n : ℕ) → may_exchange place n ≡ false → 1 ≤ place → place < n → ⊥
 past-exchange place n e a b = grind (arith, nat_tests)

@@ -31,6 +31,16 @@ fn count_of<K: Key, L: Line<K>>(line: &L) -> usize
     line.count()
 }
 
+// Denies one more where a counter is at its limit.
+pub(crate) fn check_counter(counter: u32) -> Result<(), Denial>
+    ensures { result ≡ cond (counter == most) (Err Exhausted) (Ok tt) }
+{
+    if counter == COUNTER_LIMIT {
+        return Err(Denial::Exhausted);
+    }
+    Ok(())
+}
+
 // Denies a goal that is not from 1 to the place.
 fn check_goal(goal: usize, place: usize) -> Result<(), Denial>
     ensures { result ≡ cond (outside goal place) (Err BadGoal) (Ok tt) }
@@ -42,16 +52,6 @@ fn check_goal(goal: usize, place: usize) -> Result<(), Denial>
 }
 
 impl<'a, H, R> Seen<'a, H, R> {
-    // Denies a request where no more are counted.
-    fn check_counter(&self) -> Result<(), Denial>
-        ensures { result ≡ cond (self.now.ledger.requests == most) (Err Exhausted) (Ok tt) }
-    {
-        if self.ledger.requests == COUNTER_LIMIT {
-            return Err(Denial::Exhausted);
-        }
-        Ok(())
-    }
-
     // The places of a key that stands on both sides, or none where it stands on neither.
     fn find<K: Key>(&self, key: &K) -> Result<Option<Places>, Denial>
     where
@@ -79,7 +79,7 @@ impl<'a, H, R> Seen<'a, H, R> {
         R: Line<K>,
         ensures { result ≡ admitted (failed K.Key.own H.Line R.Line (remove (K.Key.value key.now)) self.now.house.now self.now.rival.now self.now.ledger) (places_of K.Key.own H.Line R.Line key.now self.now.house.now self.now.rival.now) }
     {
-        self.check_counter()?;
+        check_counter(self.ledger.requests)?;
         self.find(key)?.ok_or(Denial::Absent)
     }
 
@@ -123,7 +123,7 @@ impl<'a, H, R> Seen<'a, H, R> {
         R: Line<K>,
         ensures { result ≡ admitted (failed K.Key.own H.Line R.Line (add (K.Key.value key.now) goal) self.now.house.now self.now.rival.now self.now.ledger) (next_places K.Key.own H.Line R.Line self.now.house.now self.now.rival.now) }
     {
-        self.check_counter()?;
+        check_counter(self.ledger.requests)?;
         let places = self.admit_load(key)?;
         check_goal(goal, places.rival)?;
         Ok(places)

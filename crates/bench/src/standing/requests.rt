@@ -3,9 +3,9 @@ ghost use Rattle.std.specs.Prelude.{◌≡◌, Ok};
 ghost use Rattle.reckoning.specs.Reckoning.{lookup, add, remove, exchange, close};
 ghost use Rattle.bench.specs.Benches.{Called};
 
-use super::super::admit::Seen;
+use super::super::admit::{Seen, check_counter};
 use super::super::effect::{append_both, bring_both, kept, take_both};
-use super::super::ledger::{COUNTER_LIMIT, Ledger};
+use super::super::ledger::Ledger;
 use super::{Closed, Running};
 use keys::{Denial, Key};
 use lines::Line;
@@ -83,9 +83,7 @@ impl Running {
     ) -> Result<(), Denial>
         ensures { Called K.Key.own H.Line R.Line (exchange place) house.now rival.old self.old.ledger result house.now rival.new self.new.ledger }
     {
-        if self.ledger.paid == COUNTER_LIMIT {
-            return Err(Denial::Exhausted);
-        }
+        check_counter(self.ledger.paid)?;
         rival.exchange(place)?;
         self.ledger = self.ledger.exchanged();
         Ok(())

@@ -1,27 +1,28 @@
 use Rattle.std.proofs.Common.{◌≡◌, true, false, eqb, map, length, Some, Err, sym, refl, ap, ◌∙◌}
 use lib.ListN.{length-map}
 use Rattle.std.proofs.lemmas.Result.{err_from_is_err_and}
-use Rattle.std.proofs.lemmas.Bool.{eq-eqb, ne_eqb}
 use Rattle.keys.specs.declared.denial.Denial.TheVariants.{OutOfRange, Exhausted}
 use Rattle.lines.specs.Orders.{may_exchange}
 use Rattle.lines.proofs.Reach.{exchanged-outside}
 use Rattle.reckoning.specs.Reckoning.{exchange, most}
 use Rattle.bench.specs.Benches.{sums_of}
-use Rattle.bench.proofs.Calls.{allowed-err, allowed-ok, past-exchange, settled-call, denied-call, done-call}
+use Rattle.bench.proofs.Calls.{checked-err, checked-ok, allowed-err, allowed-ok, past-exchange, settled-call, denied-call, done-call}
 use Rattle.bench.proofs.Effects.{exchange-done}
 use Rattle.bench.proofs.standing.Running.exchange.Goals as goal
 
-pub returns-then-self-eq-COUNTER_LIMIT : goal.returns-then-self-eq-COUNTER_LIMIT
-returns-then-self-eq-COUNTER_LIMIT g c =
-    denied-call g.K.Key g.H.Line g.R.Line g.met.K.Key.decides (exchange c.args.place) c.args.house.now c.args.rival.now c.args.self.now.ledger Exhausted refl
-    (rw (eq-eqb c.args.self.now.ledger.paid most c.if-self-eq-COUNTER_LIMIT.true) refl)
+pub returns-in_err-check_counter : goal.returns-in_err-check_counter
+returns-in_err-check_counter g c =
+    let p = err_from_is_err_and c.from_residual.result c.from_residual.ensures.1 in
+    let out = checked-err (eqb c.args.self.now.ledger.paid most) Exhausted c.check_counter.ensures (c.in_err-check_counter.was ∙ ap Err (sym p.2)) in
+    denied-call g.K.Key g.H.Line g.R.Line g.met.K.Key.decides (exchange c.args.place) c.args.house.now c.args.rival.now c.args.self.now.ledger p.0 p.1
+    (rw out.0 (ap Some (sym out.1)))
 
 pub returns-in_err-exchange : goal.returns-in_err-exchange
 returns-in_err-exchange g c =
-    let p = err_from_is_err_and c.from_residual.result c.from_residual.ensures.1 in
+    let p = err_from_is_err_and c.from_residual-in_err-exchange.result c.from_residual-in_err-exchange.ensures.1 in
     let ks = g.R.Line.keys c.args.rival.now in
     let out = allowed-err (may_exchange c.args.place (length ks)) c.exchange.ensures.gives (c.in_err-exchange.was ∙ ap Err (sym p.2)) in
-    let less : eqb c.args.self.now.ledger.paid most ≡ false = ne_eqb _ _ c.if-self-eq-COUNTER_LIMIT.false in
+    let less : eqb c.args.self.now.ledger.paid most ≡ false = checked-ok _ Exhausted c.check_counter.ensures c.in_ok-check_counter.was in
     let far : may_exchange c.args.place (length (map g.K.Key.value ks)) ≡ false = rw (length-map ks g.K.Key.value) out.0 in
     let same = c.exchange.ensures.keys ∙ exchanged-outside c.args.place ks (past-exchange c.args.place (length ks) out.0) in
     settled-call g.K.Key g.H.Line g.R.Line g.met.K.Key.decides (exchange c.args.place) c.args.house.now c.args.rival.now c.args.self.now.ledger c.args.house.now c.exchange.new.self c.args.self.now.ledger
@@ -34,7 +35,7 @@ pub returns : goal.returns
 returns g c =
     let ks = g.R.Line.keys c.args.rival.now in
     let may = allowed-ok (may_exchange c.args.place (length ks)) c.exchange.ensures.gives c.in_ok-exchange.was in
-    let less : eqb c.args.self.now.ledger.paid most ≡ false = ne_eqb _ _ c.if-self-eq-COUNTER_LIMIT.false in
+    let less : eqb c.args.self.now.ledger.paid most ≡ false = checked-ok _ Exhausted c.check_counter.ensures c.in_ok-check_counter.was in
     let near : may_exchange c.args.place (length (map g.K.Key.value ks)) ≡ true = rw (length-map ks g.K.Key.value) may in
     done-call g.K.Key g.H.Line g.R.Line g.met.K.Key.decides (exchange c.args.place) c.args.house.now c.args.rival.now c.args.self.now.ledger c.args.house.now c.exchange.new.self c.exchanged-self.result
     (λ i. record { house = g.H.Line.limit c.args.house.now; rival = c.exchange.ensures.limit i }) refl
