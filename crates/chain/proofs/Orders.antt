@@ -53,6 +53,12 @@ module _ {X : Type 0} where
   take-moved_back (suc (suc p)) n zero (w ∷ ws) l e h = absurd (omega arith)
   take-moved_back (suc (suc p)) n (suc m) (w ∷ ws) l e h = ap (λ xs. w ∷ xs) (take-moved_back (suc p) n m ws (omega arith) (omega arith) (omega arith))
 
+  pub moved_back-none : (p : ℕ) (ws : List X) → moved_back p 0 ws ≡ ws
+  moved_back-none zero ws = refl
+  moved_back-none (suc p) [] = refl
+  moved_back-none (suc zero) (w ∷ ws) = refl
+  moved_back-none (suc (suc p)) (w ∷ ws) = ap (λ xs. w ∷ xs) (moved_back-none (suc p) ws)
+
   pub moved_back-one : (p : ℕ) (ws : List X) → moved_back p 1 ws ≡ exchanged p ws
   moved_back-one zero ws = refl
   moved_back-one (suc p) [] = refl

@@ -70,6 +70,9 @@ fn move_back<K: Key>(cells: &mut [Cell<K>], head: usize, place: usize, by: usize
     ensures keys { keys_in cells.new ≡ keys_in cells.old }
     ensures way { way (nexts_in cells.new) result (room cells.new) ≡ moved_back place by (way (nexts_in cells.old) head (room cells.old)) }
 {
+    if by == 0 {
+        return head;
+    }
     let moved = walk(cells, head, place - 1);
     let after = cells[moved].next;
     let behind = walk(cells, after, by);
@@ -195,7 +198,7 @@ impl<'a, K: Key> Line<K> for Chain<'a, K> {
 
     ghost different = { λ s. s.differ };
 
-    ghost within = { λ s. keys-within s };
+    ghost within = { λ s. keys-within s.cells.now s.head s.count s.counted s.within };
 
     ghost bounded = { λ s. room-bounded s.cells.now };
 

@@ -1,5 +1,5 @@
 // Names as keys: 1 to 16 bytes of letters, digits and hyphens, where capitals mean small letters.
-ghost use Rattle.std.specs.Prelude.{◌≡◌, ℕ, List, take};
+ghost use Rattle.std.specs.Prelude.{◌≡◌, ℕ, List, take, ◌==◌};
 ghost use Rattle.std.specs.Cmp.Rules.{comparing};
 ghost use Rattle.std.specs.Ordering.{on};
 ghost use Rattle.std.specs.Int.{is_in_range};
@@ -25,7 +25,11 @@ impl Name {
     fn meant_bytes(&self) -> [u8; 16]
         ensures { take (name_length self.now.len) result ≡ name_of self.now }
     {
-        self.bytes.map(meant_byte)
+        let mut bytes = self.bytes;
+        for byte in bytes.iter_mut() {
+            *byte = meant_byte(*byte);
+        }
+        bytes
     }
 
     // The length of the record's name.
@@ -54,6 +58,13 @@ fn meant_byte(b: u8) -> u8
     }
 }
 
+// Whether two records' bytes mean the same.
+fn same_byte(a: u8, b: u8) -> bool
+    ensures { result ≡ (name_byte a == name_byte b) }
+{
+    meant_byte(a) == meant_byte(b)
+}
+
 // Whether a spelling may have this length.
 fn fits_name(len: usize) -> bool
     ensures { result ≡ is_in_range 1 16 len }
@@ -74,9 +85,14 @@ impl PartialEq for Name {
 
     ghost laws = { Prim.search (comparing, rules) };
 
+    // Lengths first, and then no further than the first bytes that differ.
     fn eq(&self, other: &Name) -> bool {
-        let (mine, theirs) = (self.meant_bytes(), other.meant_bytes());
-        mine[..self.meant_len()] == theirs[..other.meant_len()]
+        let len = self.meant_len();
+        if len != other.meant_len() {
+            return false;
+        }
+        let mut pairs = self.bytes[..len].iter().zip(&other.bytes[..len]);
+        pairs.all(|(mine, theirs)| same_byte(*mine, *theirs))
     }
 }
 
@@ -116,8 +132,9 @@ impl Key for Name {
             return Err(Denial::Layout);
         }
         let mut bytes = [0; 16];
-        bytes[..spelled.len()].copy_from_slice(spelled);
-        bytes.make_ascii_lowercase();
+        for (at, letter) in spelled.iter().enumerate() {
+            bytes[at] = letter.to_ascii_lowercase();
+        }
         Ok(Name {
             bytes,
             len: spelled.len() as u8,

@@ -1,5 +1,8 @@
 // Two logs, judged on two rows of 256 cells, which lie on the stack: no heap is used.
-ghost use Rattle.std.specs.Prelude.{◌≡◌, length, cond, Ok, Err};
+ghost use Rattle.std.specs.Prelude.{◌≡◌, length, cond, Ok, Err, nat_eq};
+ghost use Rattle.std.specs.Str.{bytes_eq};
+ghost use Rattle.keys.specs.Codes.{code_read};
+ghost use Rattle.keys.specs.Names.{name_read};
 ghost use Rattle.keys.specs.declared.denial.Denial.TheVariants.{TooLong};
 ghost use Rattle.acceptance.specs.Scripts.{fault_on};
 ghost use Rattle.judge.specs.Verdicts.{numbers_of};
@@ -36,16 +39,30 @@ fn is_of_names(page: &[u8]) -> bool
     matches!(page, [_, b'N', ..])
 }
 
+// Judges two logs of names. The cells of each kind lie in a function of their own, since a function pays at entry for the size of its locals.
+fn judge_names(page: &[u8], plan: &[u8]) -> Result<Ledger, Fault>
+    ensures { numbers_of result ≡ answer_for bytes_eq name_read 78 page.now plan.now }
+{
+    let filler = Name::default();
+    judge_on_rows(&mut [filler; 256], &mut [filler; 256], page, plan)
+}
+
+// Judges two logs of codes.
+fn judge_codes(page: &[u8], plan: &[u8]) -> Result<Ledger, Fault>
+    ensures { numbers_of result ≡ answer_for nat_eq code_read 67 page.now plan.now }
+{
+    let filler = Code::default();
+    judge_on_rows(&mut [filler; 256], &mut [filler; 256], page, plan)
+}
+
 // Judges two logs for the kind of key that the page names, codes where it names none.
 fn judge_by_kind(page: &[u8], plan: &[u8]) -> Result<Ledger, Fault>
     ensures { numbers_of result ≡ answer page.now plan.now }
 {
     if is_of_names(page) {
-        let filler = Name::default();
-        return judge_on_rows(&mut [filler; 256], &mut [filler; 256], page, plan);
+        return judge_names(page, plan);
     }
-    let filler = Code::default();
-    judge_on_rows(&mut [filler; 256], &mut [filler; 256], page, plan)
+    judge_codes(page, plan)
 }
 
 // Denies a log that has more bytes than it may.

@@ -2,6 +2,7 @@
 ghost use Rattle.std.specs.Prelude.{◌≡◌, ◌+◌, ◌*◌, ◌≤◌};
 ghost use Rattle.reckoning.specs.Twice.{Twice};
 ghost use Rattle.bench.specs.Benches.{sums_of};
+ghost use Rattle.play.specs.Playing.{Playing};
 
 use super::game::Game;
 use bench::Ledger;
@@ -37,22 +38,33 @@ fn print_order<K: Key, L: Line<K>>(rt: &HostRuntime, side: &str, line: &L) -> io
     println!(rt; "{side}-order{order}")
 }
 
+// The numbers of a bench, the two sides of its bound, and the order of its lines.
+fn print_bench<K: Key, H: Line<K>, R: Line<K>>(
+    rt: &HostRuntime,
+    ledger: Ledger,
+    house: &H,
+    rival: &R,
+) -> io::Result<()>
+    requires { Playing K.Key.own H.Line R.Line house.now rival.now ledger }
+{
+    let Ledger {
+        requests,
+        house: walked,
+        rival: followed,
+        paid,
+        free,
+    } = ledger;
+    let Bound { left, right } = Bound::of(ledger);
+    println!(rt;
+        "requests {requests}\nhouse {walked}\nrival {followed}\npaid {paid}\nfree {free}\nbound {left} <= {right}"
+    )?;
+    print_order(rt, "house", house)?;
+    print_order(rt, "rival", rival)
+}
+
 impl<K: Key, H: Line<K>, R: Line<K>> Game<K, H, R> {
-    // The numbers of the bench, the two sides of its bound, and the order of its lines.
+    // Reports on the bench as it is.
     pub(crate) fn report(&self, rt: &HostRuntime) -> io::Result<()> {
-        let ledger = self.standing.ledger();
-        let Ledger {
-            requests,
-            house,
-            rival,
-            paid,
-            free,
-        } = ledger;
-        let Bound { left, right } = Bound::of(ledger);
-        println!(rt;
-            "requests {requests}\nhouse {house}\nrival {rival}\npaid {paid}\nfree {free}\nbound {left} <= {right}"
-        )?;
-        print_order(rt, "house", &self.house)?;
-        print_order(rt, "rival", &self.rival)
+        print_bench(rt, self.standing.ledger(), &self.house, &self.rival)
     }
 }

@@ -73,9 +73,9 @@ impl<'a, K: Key> Line<K> for Row<'a, K> {
 
     ghost different = { λ s. s.differ };
 
-    ghost within = { λ s. keys-within s };
+    ghost within = { λ s. keys-within s.cells.now s.count s.within };
 
-    ghost bounded = { λ s. limit-bounded s };
+    ghost bounded = { λ s. limit-bounded s.cells.now };
 
     fn count(&self) -> usize {
         self.keys().len()

@@ -76,8 +76,9 @@ fn is_numeral(word: &str) -> bool
 pub fn read_number(word: &str) -> Option<usize>
     ensures { SomeIff result (IsNumeral 10 word.now) (min (digits_value 10 word.now) (2 ^ 64 - 1)) }
 {
-    if !is_numeral(word) {
-        return None;
+    // A word that parses is passed once: `parse` reads the same words, and those that a plus begins.
+    match word.parse() {
+        Ok(number) => (!word.starts_with('+')).then_some(number),
+        Err(_) => is_numeral(word).then_some(usize::MAX),
     }
-    Some(word.parse().unwrap_or(usize::MAX))
 }

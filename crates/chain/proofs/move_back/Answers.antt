@@ -1,8 +1,13 @@
-use Rattle.std.proofs.Common.{◌≡◌, ◌<◌, length, ◌∙◌, rules}
-use Rattle.chain.specs.Chains.{keys_in}
+use Rattle.std.proofs.Common.{◌≡◌, ◌<◌, length, sym, ◌∙◌, rules, arith}
+use Rattle.chain.specs.Ways.{way}
+use Rattle.chain.specs.Chains.{keys_in, nexts_in, room}
 use Rattle.chain.proofs.Back.{runs-before, runs-passed, moved-there, passed-run, before-run, way-moved}
 use Rattle.chain.proofs.Cells.{next-at}
+use Rattle.chain.proofs.Orders.{moved_back-none}
 use Rattle.chain.proofs.move_back.Goals as goal
+
+pub returns-then-by-eq0-clause-way : goal.returns-then-by-eq0-clause-way
+returns-then-by-eq0-clause-way g c = let cells = c.args.cells.now in let zero : c.args.by ≡ 0 = omega arith in rw zero (sym (moved_back-none c.args.place (way (nexts_in cells) c.args.head (room cells))))
 
 pub walk-moved-requires : goal.walk-moved-requires
 walk-moved-requires g c = runs-before c.args.place c.args.by c.requires.whole c.requires.range
@@ -16,8 +21,8 @@ offset_bounds-cells-moved g c = let l : c.walk-moved.result < length c.args.cell
 pub bounds-cells-moved : goal.bounds-cells-moved
 bounds-cells-moved = inside
 
-pub bounds-cells-moved-2 : goal.bounds-cells-moved-2
-bounds-cells-moved-2 g c = moved-there c.args.place c.args.by c.requires.whole c.requires.range c.walk-moved.ensures
+pub bounds-cells-moved-else-by-eq0 : goal.bounds-cells-moved-else-by-eq0
+bounds-cells-moved-else-by-eq0 g c = moved-there c.args.place c.args.by c.requires.whole c.requires.range c.walk-moved.ensures
 
 pub walk-behind-requires : goal.walk-behind-requires
 walk-behind-requires g c =

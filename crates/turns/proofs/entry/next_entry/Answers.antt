@@ -26,7 +26,7 @@ returns-clause-read g c =
     let made = ap (meant g.K.Key.value) (sym c.in_ok-key.was) ∙ c.read.ensures ∙ ap (λ spelling. read_as (g.K.Key.reading spelling)) c.spelling.ensures in
     page-read g.K.Key c.args.page.now c.next.new.self c.next.ensures.read c.next.ensures.requested (c.in_ok-given.was ∙ ap Ok c.in-Some.is)
     ∙ valued-ok g.K.Key c.in-Some.given (g.K.Key.reading spelling) c.in_ok-key.key left' made
-    ∙ ap (λ r. with (item_of g.K.Key r) left') (sym c.with_key.ensures)
+    ∙ ap (λ r. with (item_of g.K.Key r) left') (sym c.keyed.ensures)
 
 pub returns-clause-advanced : goal.returns-clause-advanced
 returns-clause-advanced g c =

@@ -1,12 +1,13 @@
-use Rattle.std.proofs.Common.{◌≡◌, ℕ, ◌<◌, slice_index, rules, tests, arith}
-use Rattle.keys.specs.Names.{name_byte}
-use Rattle.keys.proofs.Names.{name-front}
+use Rattle.keys.proofs.Names.{name-front, meant-more}
+use Rattle.std.proofs.Common.{arith}
 use Rattle.keys.proofs.name.Name.meant_bytes.Goals as goal
+
+pub loop-byte-preserved : goal.loop-byte-preserved
+loop-byte-preserved c =
+    let so-far = c.loop-byte.invariant in
+    meant-more c.args.self.now.bytes c.loop-byte.byte-items c.loop-byte.byte-index c.meant_byte.result so-far.0 (omega arith) so-far.1 so-far.2 c.meant_byte.ensures
 
 pub returns : goal.returns
 returns c =
-    let k = c.args.self.now in
-    let items = c.map.ensures.items in
-    let each : (i : ℕ) → i < 16 → slice_index c.map.result i ≡ name_byte (slice_index k.bytes i) = λ i l. let called = items.at i 0 0 l in search (rules, tests) in
-    let long = items.long in
-    name-front k c.map.result (omega arith) (λ i l. each i (omega arith))
+    let done = c.loop-byte.invariant in
+    name-front c.args.self.now c.loop-byte.byte-items (omega arith) (λ i l. done.1 i (omega arith))

@@ -1,4 +1,5 @@
-use Rattle.std.proofs.Common.{◌≡◌, true, sym, ap, ◌∙◌}
+use Rattle.std.proofs.Common.{◌≡◌, ◌≤◌, true, length, sym, ap, ◌∙◌, arith}
+use Rattle.std.proofs.lemmas.Bool.Decides.{nat_tests}
 use Rattle.keys.specs.Names.{spells_name}
 use Rattle.keys.specs.Spelling.{read_as}
 use Rattle.keys.proofs.Names.{name-read}
@@ -8,5 +9,6 @@ pub returns : goal.returns
 returns c =
     let s = c.args.spelled.now in
     let spells : spells_name s ≡ true = sym c.spells_name.ensures ∙ c.if-not-spells_name.false in
-    let read = name-read s _ spells in
-    rw (c.make_ascii_lowercase.ensures.after, c.copy_from_slice.ensures.after) (sym (ap read_as read))
+    let few : length s ≤ 16 = grind (arith, nat_tests) in
+    let room : length s ≤ length c.loop-at.bytes = omega arith in
+    sym (ap read_as (name-read s c.loop-at.bytes spells room (λ i l. c.loop-at.invariant.1 i (omega arith))))
