@@ -6,6 +6,7 @@ ghost use Rattle.script.specs.declared.words.Fault.TheVariants.{Memory};
 ghost use Rattle.script.specs.Words.{hex_digit, hex_byte, spelling_read, ReadAs};
 
 use std::alloc::{AllocError, AllocFailed, Global};
+use std::num::IntErrorKind;
 
 // Why a line was not read.
 #[derive(Clone, Copy)]
@@ -76,9 +77,13 @@ fn is_numeral(word: &str) -> bool
 pub fn read_number(word: &str) -> Option<usize>
     ensures { SomeIff result (IsNumeral 10 word.now) (min (digits_value 10 word.now) (2 ^ 64 - 1)) }
 {
-    // A word that parses is passed once: `parse` reads the same words, and those that a plus begins.
+    // A word is passed once: `parse` reads the same words, and those that a plus begins. Only where it tells that a number is too large has it
+    // not seen the whole word.
     match word.parse() {
         Ok(number) => (!word.starts_with('+')).then_some(number),
-        Err(_) => is_numeral(word).then_some(usize::MAX),
+        Err(error) if *error.kind() == IntErrorKind::PosOverflow && is_numeral(word) => {
+            Some(usize::MAX)
+        }
+        Err(_) => None,
     }
 }
