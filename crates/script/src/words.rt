@@ -77,8 +77,8 @@ fn is_numeral(word: &str) -> bool
 pub fn read_number(word: &str) -> Option<usize>
     ensures { SomeIff result (IsNumeral 10 word.now) (min (digits_value 10 word.now) (2 ^ 64 - 1)) }
 {
-    // A word is passed once: `parse` reads the same words, and those that a plus begins. Only where it tells that a number is too large has it
-    // not seen the whole word.
+    // `parse` reads the same words, and those that a plus begins. It tells that a number is too large before it has seen all of the word, so
+    // only then is the word looked at again.
     match word.parse() {
         Ok(number) => (!word.starts_with('+')).then_some(number),
         Err(error) if *error.kind() == IntErrorKind::PosOverflow && is_numeral(word) => {
